@@ -1,0 +1,3 @@
+-- Laws of tests and of lists, for every crate to cite.
+pub mod Tests
+pub mod Lists

@@ -1,0 +1,1 @@
+// No code: the laws of lists and tests that the other crates cite are in specs/.

@@ -1,0 +1,10 @@
+use borrow.Author.Needs.{needs}
+use Rattle.lit.proofs.lit_unsat.Statement.{statement}
+use Rattle.lit.proofs.lit_unsat.Tie as tie
+
+returns : tie.Need-returns
+returns c = rw (c .polarity .ensures)
+
+pub lit-unsat-spec : {M : Type 1} → statement M
+lit-unsat-spec =
+    tie.close (tie.spec (λ c. search needs) (λ c. search needs) (λ c κs. search needs) (λ c. search needs) returns)

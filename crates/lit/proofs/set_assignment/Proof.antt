@@ -1,0 +1,10 @@
+use borrow.Author.Needs.{needs}
+use Rattle.lit.proofs.set_assignment.Statement.{statement}
+use Rattle.lit.proofs.set_assignment.Tie as tie
+
+returns : tie.Need-returns
+returns c = rw (c .polarity .ensures)
+
+pub set-assignment-spec : {M : Type 1} → statement M
+set-assignment-spec =
+    tie.close (tie.spec (λ c κs. search needs) (λ c. search needs) (λ c. search needs) (λ c. search needs) returns)
