@@ -1,0 +1,2 @@
+-- The trail of `trail.rs` as memory, its operations, and the facts of a good trail.
+pub mod Trail
