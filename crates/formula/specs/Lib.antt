@@ -1,2 +1,6 @@
 -- The clause list and its check; the three checks of the source.
 pub mod Clauses
+pub mod Good
+pub mod Reading
+pub mod Adding
+pub mod Checks

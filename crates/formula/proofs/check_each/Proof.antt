@@ -1,0 +1,75 @@
+-- `check_each`: the clauses from i on give the answer.
+use Prim.Native.Nat.{ℕ, _+_, _-_, _≤_, _<_}
+use mathlib.Core.Path.{_≡_, refl, sym, _∙_}
+use mathlib.Core.Bool.{not, cond}
+use mathlib.Core.List.{List}
+use native.Mathlib.Omega.{arith}
+use borrow.Author.Needs.{needs}
+use borrow.Author.Tests.{eq-eqb, ne-eqb}
+use lib.ListN.{length, drop, drop-of-length-le}
+use lib.Dec.{eqb}
+use Rattle.formula.specs.declared.SatResult.the-variants.{Err, Unsat, Unknown}
+use Rattle.formula.specs.Clauses.{clause, clauses}
+use Rattle.formula.specs.Reading.{clause-at, length-clauses, drop-clauses}
+use Rattle.formula.specs.Checks.{checkClauseInvariant, checkEach}
+use Rattle.formula.proofs.check_each.Statement.{statement}
+use Rattle.formula.proofs.check_each.Tie as tie
+
+record Rest (n : ℕ) (lits ends : List ℕ) (i : ℕ) : Type 0 where
+  within : i ≤ length ends
+  rest : checkEach n (clauses lits ends) ≡ checkEach n (drop i (clauses lits ends))
+
+abbrev Inv-loop : tie.InvT-loop
+Inv-loop n lits ends count i₀ i = Rest n lits ends i
+
+abbrev μ-loop : tie.MeasureT-loop
+μ-loop n lits ends count i₀ i = count - i
+
+module _ {n : ℕ} {lits ends : List ℕ} {i : ℕ} (r : Rest n lits ends i) where
+  turn : i < length ends → checkEach n (clauses lits ends) ≡ cond (not (checkClauseInvariant n (clause lits ends i))) Err (cond (eqb (length (clause lits ends i)) 0) Unsat (checkEach n (drop (i + 1) (clauses lits ends))))
+  unfolding checkEach
+  turn h = r .rest ∙ rw (drop-clauses lits ends i h)
+
+  none-left : length ends ≤ i → checkEach n (clauses lits ends) ≡ Unknown
+  unfolding checkEach
+  none-left h = r .rest ∙ rw (drop-of-length-le (clauses lits ends) {i = i} (rw length-clauses h))
+
+clause-requires : tie.Need-clause-requires Inv-loop μ-loop
+clause-requires c κs = clause-at (c .before .before .before .before .pre) (c .before .loop .i) (omega arith)
+
+returns : tie.Need-returns Inv-loop μ-loop
+returns c =
+    sym (turn (c .before .before .before .before .loop .inv) (omega arith)
+    ∙ rw (← c .before .before .clause .ensures, ← c .before .sound .ensures, c .if1 .taken))
+
+returns-2 : tie.Need-returns-2 Inv-loop μ-loop
+returns-2 c =
+    sym (turn (c .before .before .before .before .before .loop .inv) (omega arith)
+    ∙ rw (← c .before .before .before .clause .ensures, ← c .before .before .sound .ensures, c .before .if1 .left, eq-eqb _ _ (c .if2 .taken)))
+
+loop-again : tie.Need-loop-again Inv-loop μ-loop
+loop-again c = record {
+  within = omega arith;
+  rest = turn (c .before .before .before .before .before .loop .inv) (omega arith)
+    ∙ rw (← c .before .before .before .clause .ensures, ← c .before .before .sound .ensures, c .before .if1 .left, ne-eqb _ _ (c .if2 .left));
+}
+
+returns-3 : tie.Need-returns-3 Inv-loop μ-loop
+returns-3 c = sym (none-left (c .before .loop .inv) (c .loop-test .left))
+
+pub check-each-spec : {M : Type 1} → statement M
+check-each-spec =
+    tie.close
+    (tie.spec
+    Inv-loop
+    μ-loop
+    (λ c. omega (arith, c .before .before .pre .few-clauses))
+    (λ c. record { within = omega arith; rest = refl })
+    clause-requires
+    (λ c κs. search needs)
+    returns
+    returns-2
+    (λ c. search needs)
+    (λ c. search needs)
+    loop-again
+    returns-3)

@@ -1,0 +1,84 @@
+-- The three checks of the source, `no_duplicates`, `check_clause_invariant` (clause.rs) and `check_formula_invariant` (formula.rs), and the
+-- replies of the calls that ask for them.
+use Prim.Native.Nat.{ℕ}
+use mathlib.Core.Bool.{Bool, true, false, _&&_, not, cond}
+use mathlib.Core.List.{List, [], _∷_}
+use lib.ListN.{length, getD}
+use lib.Dec.{ltb, eqb}
+use Rattle.laws.specs.Every.{every}
+use Rattle.lit.specs.Numbers.{NONE, maxVars, manyVars, badLength, badClauses}
+use Rattle.lit.specs.Lits.{index}
+use Rattle.formula.specs.declared.SatResult.{SatResult}
+use Rattle.formula.specs.declared.SatResult.the-variants.{Err, Sat, Unsat, Unknown}
+use Rattle.formula.specs.declared.Tested.{Tested}
+use Rattle.formula.specs.declared.Tested.the-variants as tested
+use Rattle.formula.specs.declared.Checked.{Checked}
+use Rattle.formula.specs.declared.Checked.the-variants as checked
+use Rattle.formula.specs.Clauses.{varsBelow, listOk, clauses}
+
+-- the test of `no_duplicates`: literals i and j have different variables; its inner loop, over j below i; its outer loop
+unfoldable pub differ : List ℕ → ℕ → ℕ → Bool
+differ codes i j = not (eqb (index (getD codes i 0)) (index (getD codes j 0)))
+
+unfoldable pub newAt : List ℕ → ℕ → Bool
+newAt codes i = every (differ codes i) i
+
+unfoldable pub noDuplicates : List ℕ → Bool
+noDuplicates codes = every (newAt codes) (length codes)
+
+-- `check_clause_invariant`
+unfoldable pub checkClauseInvariant : ℕ → List ℕ → Bool
+checkClauseInvariant n codes = varsBelow n codes && noDuplicates codes
+
+-- the loop of `check_formula_invariant`
+unfoldable pub checkEach : ℕ → List (List ℕ) → SatResult
+checkEach n [] = Unknown
+checkEach n (c ∷ cs) = cond (not (checkClauseInvariant n c)) Err (cond (eqb (length c) 0) Unsat (checkEach n cs))
+
+-- `check_formula_invariant`. Its first test, `num_vars >= usize::MAX / 2`, never holds: refusal 4 comes first
+unfoldable pub checkFormulaInvariant : ℕ → List (List ℕ) → SatResult
+checkFormulaInvariant n cs = cond (eqb (length cs) 0) Sat (cond (eqb n 0) Err (checkEach n cs))
+
+-- The calls, with the stated counts. A single clause is held to the limits as a list of that clause alone. Variables of N or more pass.
+unfoldable pub noDuplicatesCall : List ℕ → ℕ → Tested
+noDuplicatesCall codes count =
+    cond (not (eqb (length codes) count)) (tested.Refused badLength)
+    (cond (not (listOk codes (length codes ∷ []))) (tested.Refused badClauses)
+    (tested.Answer (noDuplicates codes)))
+
+unfoldable pub checkClauseInvariantCall : ℕ → List ℕ → ℕ → Tested
+checkClauseInvariantCall n codes count =
+    cond (ltb maxVars n) (tested.Refused manyVars)
+    (cond (not (eqb (length codes) count)) (tested.Refused badLength)
+    (cond (not (listOk codes (length codes ∷ []))) (tested.Refused badClauses)
+    (tested.Answer (checkClauseInvariant n codes))))
+
+unfoldable pub checkFormulaInvariantCall : ℕ → List ℕ → List ℕ → ℕ → ℕ → Checked
+checkFormulaInvariantCall n lits ends literals count =
+    cond (ltb maxVars n) (checked.Refused manyVars)
+    (cond (not (eqb (length lits) literals && eqb (length ends) count)) (checked.Refused badLength)
+    (cond (not (listOk lits ends)) (checked.Refused badClauses)
+    (checked.Answer (checkFormulaInvariant n (clauses lits ends)))))
+
+-- document 01's numbers: the status, and the reply, NONE where the call is refused
+unfoldable pub satNumber : SatResult → ℕ
+satNumber Err = 0
+satNumber Sat = 1
+satNumber Unsat = 2
+satNumber Unknown = 3
+
+unfoldable pub testedStatus : Tested → ℕ
+testedStatus (tested.Refused k) = k
+testedStatus (tested.Answer b) = 0
+
+unfoldable pub testedReply : Tested → ℕ
+testedReply (tested.Refused k) = NONE
+testedReply (tested.Answer b) = cond b 1 0
+
+unfoldable pub checkedStatus : Checked → ℕ
+checkedStatus (checked.Refused k) = k
+checkedStatus (checked.Answer s) = 0
+
+unfoldable pub checkedReply : Checked → ℕ
+checkedReply (checked.Refused k) = NONE
+checkedReply (checked.Answer s) = satNumber s
