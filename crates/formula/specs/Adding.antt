@@ -55,8 +55,8 @@ module _ {n : ℕ} {lits ends : List ℕ} (g : GoodClauses n lits ends) (codes :
       by-cases (decLt i (length lits))
       (λ old. rw List·getD-append (g .below i old))
       (λ new.
-          (let at : i ≡ length lits + (i - length lits) = omega arith in
-          rw (at, getD-append-add) (ltb-true _ _ (every-at (varBelow n codes) (length codes) (i - length lits) e (omega arith)))))
+      (let at : i ≡ length lits + (i - length lits) = omega arith in
+      rw (at, getD-append-add) (ltb-true _ _ (every-at (varBelow n codes) (length codes) (i - length lits) e (omega arith)))))
 
   fits-back : clauseFits n (length ends) (length lits) codes ≡ true → GoodClauses n (lits ++ codes) (withEnd lits ends codes)
   unfolding clauseFits

@@ -60,25 +60,17 @@ checkFormulaInvariantCall n lits ends literals count =
     (cond (not (listOk lits ends)) (checked.Refused badClauses)
     (checked.Answer (checkFormulaInvariant n (clauses lits ends)))))
 
--- document 01's numbers: the status, and the reply, NONE where the call is refused
+-- Document 01's numbers: status 0 and the reply, or the refusal and NONE.
 unfoldable pub satNumber : SatResult → ℕ
 satNumber Err = 0
 satNumber Sat = 1
 satNumber Unsat = 2
 satNumber Unknown = 3
 
-unfoldable pub testedStatus : Tested → ℕ
-testedStatus (tested.Refused k) = k
-testedStatus (tested.Answer b) = 0
+unfoldable pub testedNumbers : Tested → ℕ × ℕ
+testedNumbers (tested.Refused k) = (k, NONE)
+testedNumbers (tested.Answer b) = (0, cond b 1 0)
 
-unfoldable pub testedReply : Tested → ℕ
-testedReply (tested.Refused k) = NONE
-testedReply (tested.Answer b) = cond b 1 0
-
-unfoldable pub checkedStatus : Checked → ℕ
-checkedStatus (checked.Refused k) = k
-checkedStatus (checked.Answer s) = 0
-
-unfoldable pub checkedReply : Checked → ℕ
-checkedReply (checked.Refused k) = NONE
-checkedReply (checked.Answer s) = satNumber s
+unfoldable pub checkedNumbers : Checked → ℕ × ℕ
+checkedNumbers (checked.Refused k) = (k, NONE)
+checkedNumbers (checked.Answer s) = (0, satNumber s)

@@ -40,9 +40,9 @@ climbs ends all i (suc j) h b =
     by-cases (ℕ-discrete i (suc j))
     (λ same. rw same (omega arith))
     (λ other.
-        (let before : getD ends i 0 ≤ getD ends j 0 = climbs ends all i j (omega arith) (omega arith) in
-        let step : getD ends j 0 ≤ getD ends (suc j) 0 = leb-true _ _ (every-at (holdsUp ends) (length ends) (suc j) all b) in
-        omega arith))
+    (let before : getD ends i 0 ≤ getD ends j 0 = climbs ends all i j (omega arith) (omega arith) in
+    let step : getD ends j 0 ≤ getD ends (suc j) 0 = leb-true _ _ (every-at (holdsUp ends) (length ends) (suc j) all b) in
+    omega arith))
 
 -- and back: each end holds up, and the last is the literal count
 pub holds-up : {lits ends : List ℕ} → GoodList lits ends → (i : ℕ) → i < length ends → holdsUp ends i ≡ true
@@ -74,6 +74,7 @@ list-facts lits ends = (forth, back)
           last-end = λ h. sym (start-later ends (length ends) h) ∙ last;
           no-clauses = λ h. sym last ∙ rw h;
         }
+
     back : GoodList lits ends → listOk lits ends ≡ true
     back g =
         and-both (and-both (le-leb _ _ (g .few-clauses)) (le-leb _ _ (g .few-literals)))
@@ -82,12 +83,13 @@ list-facts lits ends = (forth, back)
 -- Refusal 6 comes exactly where one of them fails.
 pub clauses-facts : (n : ℕ) (lits ends : List ℕ) → (clausesOk n lits ends ≡ true) ↔ GoodClauses n lits ends
 unfolding clausesOk varsBelow varBelow
-clauses-facts n lits ends =
-    (λ e. record {
-      list = list-facts lits ends .0 (and-left (listOk lits ends) _ e);
-      below = λ i h. ltb-true _ _ (every-at (varBelow n lits) (length lits) i (and-right (listOk lits ends) _ e) h);
-    },
-    λ g. and-both (list-facts lits ends .1 (g .list)) (every-all (varBelow n lits) (length lits) (λ i h. lt-ltb _ _ (g .below i h))))
+clauses-facts n lits ends = (
+  λ e. record {
+    list = list-facts lits ends .0 (and-left (listOk lits ends) _ e);
+    below = λ i h. ltb-true _ _ (every-at (varBelow n lits) (length lits) i (and-right (listOk lits ends) _ e) h);
+  },
+  λ g. and-both (list-facts lits ends .1 (g .list)) (every-all (varBelow n lits) (length lits) (λ i h. lt-ltb _ _ (g .below i h))),
+)
 
 -- A single clause, as a list of that clause alone, is held to the literals' limit only.
 pub alone : (codes : List ℕ) → listOk codes (length codes ∷ []) ≡ leb (length codes) maxLiterals

@@ -4,3 +4,6 @@ pub mod Good
 pub mod Reading
 pub mod Adding
 pub mod Checks
+pub mod Marks
+pub mod Distinct
+pub mod CaseL

@@ -6,11 +6,13 @@ use lit::MAX_CLAUSES;
 use lit::MAX_LITERALS;
 use lit::MAX_VARS;
 ghost use mathlib.Core.Path.{_≡_};
-ghost use Prim.Native.Nat.{_+_, _*_, _/_, _<_};
+ghost use Prim.Native.Nat.{_+_, _*_, _/_, _≤_, _<_};
 ghost use lib.ListN.{length};
 ghost use Rattle.formula.specs.Clauses as spec;
 ghost use Rattle.formula.specs.Checks as checks;
 ghost use Rattle.formula.specs.Good.{GoodList};
+ghost use Rattle.formula.specs.Marks.{Unmarked};
+ghost use Rattle.lit.specs.Numbers.{maxVars};
 
 // What is said of a formula. In the source Sat carries an assignment, which is empty here.
 pub enum SatResult {
@@ -142,23 +144,37 @@ fn distinct(codes: &[u32]) -> bool
     true
 }
 
-// Whether the clause is over n variables and none stands twice.
-fn sound(n: u32, codes: &[u32]) -> bool
-    ensures { λ r. ⌜ r ≡ checks.checkClauseInvariant n (now (codes .entry)) ⌝ }
+// Whether the clause is over n variables and none stands twice. Each variable that it meets gets the clause's mark.
+fn check_clause(n: u32, codes: &[u32], marks: &mut [u32], mark: u32) -> bool
+    requires { ⌜ Unmarked n mark (now marks) ⌝ }
+    ensures { λ r. ⌜ (r ≡ checks.checkClauseInvariant n (now (codes .entry))) × Unmarked n (mark + 1) (now (marks .exit)) ⌝ }
 {
-    check_lits(n, codes) && distinct(codes)
+    let mut i = 0;
+    while i < codes.len() {
+        let v = lit::index(codes[i]);
+        if v >= n {
+            return false;
+        }
+        if marks[v as usize] == mark {
+            return false;
+        }
+        marks[v as usize] = mark;
+        i += 1;
+    }
+    true
 }
 
 // What the first clause says that is not sound, or empty.
 fn check_each(n: u32, lits: &[u32], ends: &[u32]) -> SatResult
-    requires { ⌜ GoodList (now lits) (now ends) ⌝ }
+    requires { ⌜ GoodList (now lits) (now ends) × (n ≤ maxVars) ⌝ }
     ensures { λ r. ⌜ r ≡ checks.checkEach n (spec.clauses (now (lits .entry)) (now (ends .entry))) ⌝ }
 {
+    let mut marks = [0u32; MAX_VARS as usize];
     let count = ends.len() as u32;
     let mut i = 0;
     while i < count {
         let codes = clause(lits, ends, i);
-        if !sound(n, codes) {
+        if !check_clause(n, codes, &mut marks, i + 1) {
             return SatResult::Err;
         }
         if codes.len() == 0 {
@@ -171,7 +187,7 @@ fn check_each(n: u32, lits: &[u32], ends: &[u32]) -> SatResult
 
 // What is known of a formula before any search.
 fn check_formula(n: u32, lits: &[u32], ends: &[u32]) -> SatResult
-    requires { ⌜ GoodList (now lits) (now ends) ⌝ }
+    requires { ⌜ GoodList (now lits) (now ends) × (n ≤ maxVars) ⌝ }
     ensures { λ r. ⌜ r ≡ checks.checkFormulaInvariant n (spec.clauses (now (lits .entry)) (now (ends .entry))) ⌝ }
 {
     if ends.len() == 0 {
@@ -209,11 +225,18 @@ pub fn check_clause_invariant(n: u32, codes: &[u32], count: u32) -> Tested
     if codes.len() > MAX_LITERALS as usize {
         return Tested::Refused(BAD_CLAUSES);
     }
-    Tested::Answer(sound(n, codes))
+    let mut marks = [0u32; MAX_VARS as usize];
+    Tested::Answer(check_clause(n, codes, &mut marks, 1))
 }
 
 // What is known of a formula of so many literals and clauses before any search.
-pub fn check_formula_invariant(n: u32, lits: &[u32], ends: &[u32], literals: u32, count: u32) -> Checked
+pub fn check_formula_invariant(
+    n: u32,
+    lits: &[u32],
+    ends: &[u32],
+    literals: u32,
+    count: u32,
+) -> Checked
     ensures { λ r. ⌜ r ≡ checks.checkFormulaInvariantCall n (now (lits .entry)) (now (ends .entry)) literals count ⌝ }
 {
     if n > MAX_VARS {

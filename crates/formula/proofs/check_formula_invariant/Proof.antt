@@ -24,7 +24,7 @@ unfolding checkFormulaInvariantCall
 returns-4 c = rw (le-ltb _ _ (c .before .before .before .before .if1 .left), eq-eqb _ _ (c .before .before .before .if2 .left), eq-eqb _ _ (c .before .before .if3 .left), ← c .before .check-list .ensures, c .if4 .taken)
 
 check-formula-requires : tie.Need-check-formula-requires
-check-formula-requires c κs = list-facts _ _ .0 (sym (c .before .check-list .ensures) ∙ not-false _ (c .if4 .left))
+check-formula-requires c κs = (list-facts _ _ .0 (sym (c .before .check-list .ensures) ∙ not-false _ (c .if4 .left)), c .before .before .before .before .if1 .left)
 
 returns-5 : tie.Need-returns-5
 unfolding checkFormulaInvariantCall
