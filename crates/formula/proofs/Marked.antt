@@ -1,7 +1,7 @@
 -- A pass over a clause that marks its variables: a variable has the mark exactly where an earlier literal has it, so the next literal's
 -- variable is new exactly where it lacks the mark. Assumes nothing.
 use Prim.Native.Nat.{ℕ, _+_, _≤_, _<_}
-use mathlib.Core.Path.{_≡_, refl, sym, _∙_}
+use mathlib.Core.Path.{_≡_, refl, sym}
 use mathlib.Core.Logic.{by-cases}
 use mathlib.Core.Bool.{true, false}
 use mathlib.Core.List.{List}

@@ -1,6 +1,6 @@
 -- One more clause on a good list: its codes behind the others, its end behind the ends. Assumes nothing.
 use Prim.Native.Nat.{ℕ, _+_, _-_, _≤_, _<_}
-use mathlib.Core.Path.{_≡_, refl, sym, _∙_}
+use mathlib.Core.Path.{_≡_}
 use mathlib.Core.Logic.{by-cases}
 use mathlib.Core.Bool.{true, _&&_}
 use mathlib.Core.List.{List, [], _∷_, _++_}
@@ -14,7 +14,7 @@ use Rattle.laws.specs.Tests.{and-left, and-right, and-both, same-test}
 use Rattle.laws.specs.Every.{every-at, every-all}
 use Rattle.lit.specs.Numbers.{maxClauses, maxLiterals}
 use Rattle.lit.specs.Lits.{index}
-use Rattle.formula.specs.Clauses.{start, clause, clausesOk, clauseFits, varsBelow, varBelow, ClauseAt}
+use Rattle.formula.specs.Clauses.{start, clause, clausesOk, clauseFits, varsBelow, varBelow}
 use Rattle.formula.specs.Good.{GoodList, GoodClauses, clauses-facts, last-start}
 use Rattle.formula.specs.Reading.{clause-at}
 
@@ -36,7 +36,7 @@ module _ {n : ℕ} {lits ends : List ℕ} (g : GoodClauses n lits ends) (codes :
   fits-forth : GoodClauses n (lits ++ codes) (withEnd lits ends codes) → clauseFits n (length ends) (length lits) codes ≡ true
   unfolding clauseFits varsBelow varBelow
   fits-forth a =
-      let clauses : length ends < maxClauses = omega (arith, (ends-length lits ends codes), a .list .few-clauses) in
+      let clauses : length ends < maxClauses = omega (arith, ends-length lits ends codes, a .list .few-clauses) in
       let literals : length lits + length codes ≤ maxLiterals = omega (arith, length-append lits codes, a .list .few-literals) in
       and-both (and-both (lt-ltb _ _ clauses) (le-leb _ _ literals))
       (every-all (varBelow n codes) (length codes) (λ i h. lt-ltb _ _ (rw (getD-append-add lits codes i 0) at (a .below (length lits + i) (simp length-append (omega arith))))))
@@ -69,8 +69,8 @@ module _ {n : ℕ} {lits ends : List ℕ} (g : GoodClauses n lits ends) (codes :
           few-clauses = rw (ends-length lits ends codes) (omega arith);
           few-literals = rw length-append (leb-true _ _ (and-right (ltb (length ends) maxClauses) _ limits));
           never-fall = λ i j h b. still-up i j h (rw (ends-length lits ends codes) at b);
-          last-end = λ _. (let last : length ends + 1 - 1 ≡ length ends = omega arith in rw ((ends-length lits ends codes), last, length-append) (new-end lits ends codes));
-          no-clauses = λ none. absurd (omega (arith, (ends-length lits ends codes)));
+          last-end = λ _. (let last : length ends + 1 - 1 ≡ length ends = omega arith in rw (ends-length lits ends codes, last, length-append) (new-end lits ends codes));
+          no-clauses = λ none. absurd (omega (arith, ends-length lits ends codes));
         };
         below = λ i h. all-below vars i (rw length-append at h);
       }

@@ -1,7 +1,7 @@
 -- The three checks of the source, `no_duplicates`, `check_clause_invariant` (clause.rs) and `check_formula_invariant` (formula.rs), and the
 -- replies of the calls that ask for them.
 use Prim.Native.Nat.{ℕ}
-use mathlib.Core.Bool.{Bool, true, false, _&&_, not, cond}
+use mathlib.Core.Bool.{Bool, _&&_, not, cond}
 use mathlib.Core.List.{List, [], _∷_}
 use lib.ListN.{length, getD}
 use lib.Dec.{ltb, eqb}

@@ -28,12 +28,12 @@ abbrev pub clauses : List ℕ → List ℕ → List (List ℕ)
 clauses lits ends = clausesFrom 0 lits ends
 
 -- end i is not below the end before it
-unfoldable pub holdsUp : List ℕ → ℕ → Bool
-holdsUp ends i = leb (start ends i) (getD ends i 0)
+unfoldable pub noFallAt : List ℕ → ℕ → Bool
+noFallAt ends i = leb (start ends i) (getD ends i 0)
 
 -- ends never fall; the last equals the literal count, which is 0 without clauses
 unfoldable pub endsOk : List ℕ → ℕ → Bool
-endsOk ends literals = every (holdsUp ends) (length ends) && eqb (start ends (length ends)) literals
+endsOk ends literals = every (noFallAt ends) (length ends) && eqb (start ends (length ends)) literals
 
 -- what refusal 6 asks of a clause list, with variables left aside
 unfoldable pub listOk : List ℕ → List ℕ → Bool

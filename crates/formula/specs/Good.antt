@@ -1,10 +1,9 @@
--- The clause list's paragraph of document 01, a field for each of its facts, and what the check of it gives to whoever reads a clause or
--- adds one. Assumes nothing.
-use Prim.Native.Nat.{ℕ, zero, suc, _+_, _-_, _≤_, _<_}
+-- The clause list's paragraph of document 01, a field for each of its facts. The check asks these facts and no more. Assumes nothing.
+use Prim.Native.Nat.{ℕ, zero, suc, _-_, _≤_, _<_}
 use mathlib.Core.Path.{_≡_, refl, sym, _∙_}
 use mathlib.Core.Logic.{_↔_, by-cases}
-use mathlib.Core.Bool.{true, false, _&&_}
-use mathlib.Core.List.{List, [], _∷_, _++_}
+use mathlib.Core.Bool.{true, _&&_}
+use mathlib.Core.List.{List, [], _∷_}
 use native.Mathlib.Decide.{ℕ-discrete}
 use native.Mathlib.Omega.{arith}
 use borrow.Author.Tests.{leb-true, ltb-true, eqb-true, le-leb, lt-ltb, eq-eqb}
@@ -14,8 +13,9 @@ use Rattle.laws.specs.Tests.{and-left, and-right, and-both, and-true}
 use Rattle.laws.specs.Every.{every, every-at, every-all}
 use Rattle.lit.specs.Numbers.{maxClauses, maxLiterals}
 use Rattle.lit.specs.Lits.{index}
-use Rattle.formula.specs.Clauses.{start, holdsUp, endsOk, listOk, varBelow, varsBelow, clausesOk, ClauseAt}
+use Rattle.formula.specs.Clauses.{start, noFallAt, endsOk, listOk, varBelow, varsBelow, clausesOk}
 
+-- "At most 2,048 clauses and 8,192 literals; ends never fall; the last equals the literal count, which is 0 without clauses"
 pub record GoodList (lits ends : List ℕ) : Type 0 where
   pub few-clauses : length ends ≤ maxClauses
   pub few-literals : length lits ≤ maxLiterals
@@ -23,6 +23,7 @@ pub record GoodList (lits ends : List ℕ) : Type 0 where
   pub last-end : 0 < length ends → getD ends (length ends - 1) 0 ≡ length lits
   pub no-clauses : length ends ≡ 0 → length lits ≡ 0
 
+-- "variables are below N"
 pub record GoodClauses (n : ℕ) (lits ends : List ℕ) : Type 0 where
   pub list : GoodList lits ends
   pub below : (i : ℕ) → i < length lits → index (getD lits i 0) < n
@@ -32,23 +33,23 @@ pub start-later : (ends : List ℕ) (i : ℕ) → 0 < i → start ends i ≡ get
 start-later ends zero h = absurd (omega arith)
 start-later ends (suc i) h = let e : suc i - 1 ≡ i = omega arith in rw e
 
--- ends that hold up one by one never fall
-climbs : (ends : List ℕ) → every (holdsUp ends) (length ends) ≡ true → (i j : ℕ) → i ≤ j → j < length ends → getD ends i 0 ≤ getD ends j 0
-unfolding holdsUp
+-- ends of which none is below the one before it never fall
+climbs : (ends : List ℕ) → every (noFallAt ends) (length ends) ≡ true → (i j : ℕ) → i ≤ j → j < length ends → getD ends i 0 ≤ getD ends j 0
+unfolding noFallAt
 climbs ends all i zero h b = let e : i ≡ 0 = omega arith in rw e (omega arith)
 climbs ends all i (suc j) h b =
     by-cases (ℕ-discrete i (suc j))
     (λ same. rw same (omega arith))
     (λ other.
     (let before : getD ends i 0 ≤ getD ends j 0 = climbs ends all i j (omega arith) (omega arith) in
-    let step : getD ends j 0 ≤ getD ends (suc j) 0 = leb-true _ _ (every-at (holdsUp ends) (length ends) (suc j) all b) in
+    let step : getD ends j 0 ≤ getD ends (suc j) 0 = leb-true _ _ (every-at (noFallAt ends) (length ends) (suc j) all b) in
     omega arith))
 
--- and back: each end holds up, and the last is the literal count
-pub holds-up : {lits ends : List ℕ} → GoodList lits ends → (i : ℕ) → i < length ends → holdsUp ends i ≡ true
-unfolding holdsUp
-holds-up {lits} {ends} g zero b = leb·zero (getD ends 0 0)
-holds-up g (suc i) b = le-leb _ _ (g .never-fall i (suc i) (omega arith) b)
+-- and back: none is below the one before it, and the last is the literal count
+pub no-fall : {lits ends : List ℕ} → GoodList lits ends → (i : ℕ) → i < length ends → noFallAt ends i ≡ true
+unfolding noFallAt
+no-fall {lits} {ends} g zero b = leb·zero (getD ends 0 0)
+no-fall g (suc i) b = le-leb _ _ (g .never-fall i (suc i) (omega arith) b)
 
 pub last-start : {lits ends : List ℕ} → GoodList lits ends → start ends (length ends) ≡ length lits
 last-start {lits} {ends} g =
@@ -56,7 +57,7 @@ last-start {lits} {ends} g =
     (λ none. sym (g .no-clauses none ∙ rw none))
     (λ some. start-later ends (length ends) (omega arith) ∙ g .last-end (omega arith))
 
--- The check, with variables left aside, asks these facts and no more.
+-- With variables left aside, the check asks the first of these records.
 pub list-facts : (lits ends : List ℕ) → (listOk lits ends ≡ true) ↔ GoodList lits ends
 unfolding listOk endsOk
 list-facts lits ends = (forth, back)
@@ -65,8 +66,8 @@ list-facts lits ends = (forth, back)
     forth e =
         let limits = and-left (leb (length ends) maxClauses && leb (length lits) maxLiterals) _ e in
         let right = and-right (leb (length ends) maxClauses && leb (length lits) maxLiterals) _ e in
-        let up = and-left (every (holdsUp ends) (length ends)) _ right in
-        let last : start ends (length ends) ≡ length lits = eqb-true _ _ (and-right (every (holdsUp ends) (length ends)) _ right) in
+        let up = and-left (every (noFallAt ends) (length ends)) _ right in
+        let last : start ends (length ends) ≡ length lits = eqb-true _ _ (and-right (every (noFallAt ends) (length ends)) _ right) in
         record {
           few-clauses = leb-true _ _ (and-left (leb (length ends) maxClauses) _ limits);
           few-literals = leb-true _ _ (and-right (leb (length ends) maxClauses) _ limits);
@@ -78,9 +79,9 @@ list-facts lits ends = (forth, back)
     back : GoodList lits ends → listOk lits ends ≡ true
     back g =
         and-both (and-both (le-leb _ _ (g .few-clauses)) (le-leb _ _ (g .few-literals)))
-        (and-both (every-all (holdsUp ends) (length ends) (holds-up g)) (eq-eqb _ _ (last-start g)))
+        (and-both (every-all (noFallAt ends) (length ends) (no-fall g)) (eq-eqb _ _ (last-start g)))
 
--- Refusal 6 comes exactly where one of them fails.
+-- Refusal 6 comes exactly where one of these facts fails.
 pub clauses-facts : (n : ℕ) (lits ends : List ℕ) → (clausesOk n lits ends ≡ true) ↔ GoodClauses n lits ends
 unfolding clausesOk varsBelow varBelow
 clauses-facts n lits ends = (
@@ -91,7 +92,7 @@ clauses-facts n lits ends = (
   λ g. and-both (list-facts lits ends .1 (g .list)) (every-all (varBelow n lits) (length lits) (λ i h. lt-ltb _ _ (g .below i h))),
 )
 
--- A single clause, as a list of that clause alone, is held to the literals' limit only.
+-- A list of one clause alone is held to the limit of literals.
 pub alone : (codes : List ℕ) → listOk codes (length codes ∷ []) ≡ leb (length codes) maxLiterals
-unfolding listOk endsOk holdsUp every
+unfolding listOk endsOk noFallAt every
 alone codes = rw (leb·zero (length codes), eq-eqb (length codes) (length codes) refl) (and-true _)

@@ -1,18 +1,17 @@
--- What a good clause list gives to whoever reads a clause or adds one. Assumes nothing.
+-- What a good clause list gives to whoever reads a clause. Assumes nothing.
 use Prim.Native.Nat.{ℕ, zero, suc, _+_, _-_, _≤_, _<_}
 use mathlib.Core.Path.{_≡_, refl, sym, _∙_}
 use mathlib.Core.Logic.{by-cases}
-use mathlib.Core.Bool.{true, _&&_}
-use mathlib.Core.List.{List, [], _∷_, _++_}
+use mathlib.Core.List.{List, [], _∷_, flatten}
 use native.Mathlib.Decide.{ℕ-discrete}
 use native.Mathlib.Numerals.{add-one}
 use native.Mathlib.Omega.{arith}
 use borrow.Author.Tests.{leb-true}
-use lib.ListN.{length, getD, take, drop, length-take, length-drop, length-append, List·getD-append}
-use lib.Seq.{getD-take, getD-drop, drop-cons}
+use lib.ListN.{length, getD, drop, length-take, length-drop, take-append-drop, drop-of-length-le}
+use lib.Seq.{getD-take, getD-drop, drop-cons, drop-drop}
 use Rattle.lit.specs.Lits.{index}
-use Rattle.formula.specs.Clauses.{start, part, clause, clauses, clausesFrom, holdsUp, clausesOk, clauseFits, ClauseAt}
-use Rattle.formula.specs.Good.{GoodList, GoodClauses, list-facts, clauses-facts, start-later, holds-up}
+use Rattle.formula.specs.Clauses.{start, part, clause, clauses, clausesFrom, noFallAt, ClauseAt}
+use Rattle.formula.specs.Good.{GoodList, GoodClauses, no-fall, last-start}
 
 module _ {lits ends : List ℕ} (g : GoodList lits ends) (i : ℕ) (one : i < length ends) where
   -- no end is past the last literal
@@ -23,8 +22,8 @@ module _ {lits ends : List ℕ} (g : GoodList lits ends) (i : ℕ) (one : i < le
       (λ other. omega (arith, g .never-fall i (length ends - 1) (omega arith) (omega arith), g .last-end (omega arith)))
 
   pub clause-at : ClauseAt lits ends i
-  unfolding holdsUp
-  clause-at = record { one = one; rises = leb-true _ _ (holds-up g i one); within = within }
+  unfolding noFallAt
+  clause-at = record { one = one; rises = leb-true _ _ (no-fall g i one); within = within }
 
   pub clause-length : length (clause lits ends i) ≡ getD ends i 0 - start ends i
   clause-length = let at = clause-at in simp (length-take, length-drop) (omega arith)
@@ -58,3 +57,16 @@ pub drop-clauses : (lits ends : List ℕ) (i : ℕ) → i < length ends → drop
 drop-clauses lits ends i h =
     let h′ : i < length (clauses lits ends) = rw length-clauses h in
     rw (add-one i, drop-cons (clauses lits ends) i [], getD-clauses lits ends i h)
+
+-- one after the other, they are the codes of the list
+join-from : (from : ℕ) (lits ends : List ℕ) → ((i : ℕ) → i < length ends → getD (from ∷ ends) i 0 ≤ getD ends i 0) → getD (from ∷ ends) (length ends) 0 ≡ length lits → flatten (clausesFrom from lits ends) ≡ drop from lits
+unfolding clausesFrom flatten
+join-from from lits [] up last = sym (drop-of-length-le lits {i = from} (omega arith))
+join-from from lits (e ∷ es) up last =
+    let at : from + (e - from) ≡ e = omega (arith, up 0 (omega arith)) in
+    let rest : drop (e - from) (drop from lits) ≡ drop e lits = drop-drop (e - from) from lits ∙ rw at in
+    rw (join-from e lits es (λ i h. up (suc i) (omega arith)) last, ← rest) (take-append-drop (e - from) (drop from lits))
+
+pub join-clauses : {lits ends : List ℕ} → GoodList lits ends → flatten (clauses lits ends) ≡ lits
+unfolding noFallAt
+join-clauses {lits} {ends} g = join-from 0 lits ends (λ i h. leb-true _ _ (no-fall g i h)) (last-start g)

@@ -1,12 +1,12 @@
 -- `check_clause`: the literals before i pass both tests, and the marks tell their variables.
 use Prim.Native.Nat.{_-_}
-use mathlib.Core.Path.{_≡_, refl, sym, _∙_}
+use mathlib.Core.Path.{_≡_, refl}
 use native.Mathlib.Omega.{arith}
 use borrow.Author.Needs.{needs}
-use borrow.Author.Tests.{lt-ltb, le-ltb}
+use borrow.Author.Tests.{le-ltb}
 use lib.ListN.{length, length-set}
 use Rattle.laws.specs.Tests.{and-false}
-use Rattle.laws.specs.Every.{Passed, passed-all, passed-fails}
+use Rattle.laws.specs.Every.{passed-all, passed-fails}
 use Rattle.formula.specs.Clauses.{varBelow, varsBelow}
 use Rattle.formula.specs.Checks.{noDuplicates, checkClauseInvariant}
 use Rattle.formula.proofs.Marked.{Marked, marked-none, marked-more, has-mark, lacks-mark, marked}

@@ -1,7 +1,6 @@
-use mathlib.Core.Path.{_≡_, sym, _∙_}
-use mathlib.Core.Bool.{true, false}
+use mathlib.Core.Path.{sym, _∙_}
 use borrow.Author.Needs.{needs}
-use borrow.Author.Tests.{lt-ltb, le-ltb, eq-eqb, ne-eqb, not-true, not-false}
+use borrow.Author.Tests.{lt-ltb, le-ltb, eq-eqb, ne-eqb, not-false}
 use Rattle.formula.specs.Good.{list-facts}
 use Rattle.formula.specs.Checks.{checkFormulaInvariantCall}
 use Rattle.formula.proofs.check_formula_invariant.Statement.{statement}
