@@ -8,7 +8,7 @@ use Rattle.formula.specs.declared.SatResult.the-variants.{Err, Sat, Unsa
 use Rattle.formula.specs.declared.Checked.{Checked}
 use Rattle.formula.specs.declared.Checked.the-variants.{Answer}
 use Rattle.formula.specs.Clauses.{listOk, endsOk, noFallAt, varsBelow, varBelow, clausesFrom}
-use Rattle.formula.specs.Checks.{differ, newAt, noDuplicates, checkClauseInvariant, checkEach, checkFormulaInvariant, checkFormulaInvariantCall, checkedNumbers, satNumber}
+use Rattle.formula.specs.Checks.{differ, newAt, noDuplicates, checkClauseInvariant, checkEach, checkFormulaInvariant, listRefusal, checkFormulaInvariantCall, checkedNumbers, satNumber}
 
 pub record Formula : Type 0 where
   pub n : ℕ
@@ -37,7 +37,7 @@ abbrev formulas : List Formula
 formulas = noClauses ∷ noVariables ∷ emptyThenOut ∷ outThenEmpty ∷ bothPolarities ∷ []
 
 pub case-L : map answer formulas ≡ Answer Sat ∷ Answer Err ∷ Answer Unsat ∷ Answer Err ∷ Answer Err ∷ []
-unfolding every listOk endsOk noFallAt varsBelow varBelow clausesFrom differ newAt noDuplicates checkClauseInvariant checkEach checkFormulaInvariant checkFormulaInvariantCall
+unfolding every listOk endsOk noFallAt varsBelow varBelow clausesFrom differ newAt noDuplicates checkClauseInvariant checkEach checkFormulaInvariant listRefusal checkFormulaInvariantCall
 case-L = refl
 
 -- in numbers, each a status and a reply

@@ -39,26 +39,31 @@ checkEach n (c ∷ cs) = cond (not (checkClauseInvariant n c)) Err (cond (eqb (l
 unfoldable pub checkFormulaInvariant : ℕ → List (List ℕ) → SatResult
 checkFormulaInvariant n cs = cond (eqb (length cs) 0) Sat (cond (eqb n 0) Err (checkEach n cs))
 
--- The calls, with the stated counts. A single clause is held to the limits as a list of that clause alone. Variables of N or more pass.
+-- The refusal of a clause list with its stated counts, where the variables may be any: 5, then 6, or 0 for none.
+unfoldable pub listRefusal : List ℕ → List ℕ → ℕ → ℕ → ℕ
+listRefusal lits ends literals clauses =
+    cond (not (eqb (length lits) literals && eqb (length ends) clauses)) badLength
+    (cond (not (listOk lits ends)) badClauses 0)
+
+-- The three calls. One clause's codes are a list of that clause alone.
+abbrev testedUnless : ℕ → Bool → Tested
+testedUnless status b = cond (eqb status 0) (tested.Answer b) (tested.Refused status)
+
+abbrev checkedUnless : ℕ → SatResult → Checked
+checkedUnless status s = cond (eqb status 0) (checked.Answer s) (checked.Refused status)
+
 unfoldable pub noDuplicatesCall : List ℕ → ℕ → Tested
-noDuplicatesCall codes count =
-    cond (not (eqb (length codes) count)) (tested.Refused badLength)
-    (cond (not (listOk codes (length codes ∷ []))) (tested.Refused badClauses)
-    (tested.Answer (noDuplicates codes)))
+noDuplicatesCall codes count = testedUnless (listRefusal codes (count ∷ []) count 1) (noDuplicates codes)
 
 unfoldable pub checkClauseInvariantCall : ℕ → List ℕ → ℕ → Tested
 checkClauseInvariantCall n codes count =
     cond (ltb maxVars n) (tested.Refused manyVars)
-    (cond (not (eqb (length codes) count)) (tested.Refused badLength)
-    (cond (not (listOk codes (length codes ∷ []))) (tested.Refused badClauses)
-    (tested.Answer (checkClauseInvariant n codes))))
+    (testedUnless (listRefusal codes (count ∷ []) count 1) (checkClauseInvariant n codes))
 
 unfoldable pub checkFormulaInvariantCall : ℕ → List ℕ → List ℕ → ℕ → ℕ → Checked
 checkFormulaInvariantCall n lits ends literals count =
     cond (ltb maxVars n) (checked.Refused manyVars)
-    (cond (not (eqb (length lits) literals && eqb (length ends) count)) (checked.Refused badLength)
-    (cond (not (listOk lits ends)) (checked.Refused badClauses)
-    (checked.Answer (checkFormulaInvariant n (clauses lits ends)))))
+    (checkedUnless (listRefusal lits ends literals count) (checkFormulaInvariant n (clauses lits ends)))
 
 -- Document 01's numbers: status 0 and the reply, or the refusal and NONE.
 unfoldable pub satNumber : SatResult → ℕ

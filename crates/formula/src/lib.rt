@@ -14,7 +14,7 @@ ghost use Rattle.formula.specs.Good.{GoodList};
 ghost use Rattle.formula.specs.Marks.{Unmarked};
 ghost use Rattle.lit.specs.Numbers.{maxVars};
 
-// What is said of a formula. In the source Sat carries an assignment, which is empty here.
+// What a check says of a formula. The assignment in the source's Sat is always empty here, and is left out.
 pub enum SatResult {
     Err,
     Sat,
@@ -164,7 +164,7 @@ fn check_clause(n: u32, codes: &[u32], marks: &mut [u32], mark: u32) -> bool
     true
 }
 
-// What the first clause says that is not sound, or empty.
+// Err or Unsat, by the first clause that fails its check or is empty; else Unknown.
 fn check_each(n: u32, lits: &[u32], ends: &[u32]) -> SatResult
     requires { ⌜ GoodList (now lits) (now ends) × (n ≤ maxVars) ⌝ }
     ensures { λ r. ⌜ r ≡ checks.checkEach n (spec.clauses (now (lits .entry)) (now (ends .entry))) ⌝ }
@@ -199,15 +199,31 @@ fn check_formula(n: u32, lits: &[u32], ends: &[u32]) -> SatResult
     check_each(n, lits, ends)
 }
 
+// The refusal of a list of so many literals and clauses, with variables left aside, or 0.
+fn list_refusal(lits: &[u32], ends: &[u32], literals: u32, clauses: u32) -> u32
+    ensures { λ r. ⌜ r ≡ checks.listRefusal (now (lits .entry)) (now (ends .entry)) literals clauses ⌝ }
+{
+    if lits.len() != literals as usize {
+        return BAD_LENGTH;
+    }
+    if ends.len() != clauses as usize {
+        return BAD_LENGTH;
+    }
+    if check_list(lits, ends) {
+        0
+    } else {
+        BAD_CLAUSES
+    }
+}
+
 // Whether no variable stands twice in a clause of so many literals.
 pub fn no_duplicates(codes: &[u32], count: u32) -> Tested
     ensures { λ r. ⌜ r ≡ checks.noDuplicatesCall (now (codes .entry)) count ⌝ }
 {
-    if codes.len() != count as usize {
-        return Tested::Refused(BAD_LENGTH);
-    }
-    if codes.len() > MAX_LITERALS as usize {
-        return Tested::Refused(BAD_CLAUSES);
+    let ends = [count];
+    let status = list_refusal(codes, &ends, count, 1);
+    if status != 0 {
+        return Tested::Refused(status);
     }
     Tested::Answer(distinct(codes))
 }
@@ -219,11 +235,10 @@ pub fn check_clause_invariant(n: u32, codes: &[u32], count: u32) -> Tested
     if n > MAX_VARS {
         return Tested::Refused(MANY_VARS);
     }
-    if codes.len() != count as usize {
-        return Tested::Refused(BAD_LENGTH);
-    }
-    if codes.len() > MAX_LITERALS as usize {
-        return Tested::Refused(BAD_CLAUSES);
+    let ends = [count];
+    let status = list_refusal(codes, &ends, count, 1);
+    if status != 0 {
+        return Tested::Refused(status);
     }
     let mut marks = [0u32; MAX_VARS as usize];
     Tested::Answer(check_clause(n, codes, &mut marks, 1))
@@ -235,21 +250,16 @@ pub fn check_formula_invariant(
     lits: &[u32],
     ends: &[u32],
     literals: u32,
-    count: u32,
+    clauses: u32,
 ) -> Checked
-    ensures { λ r. ⌜ r ≡ checks.checkFormulaInvariantCall n (now (lits .entry)) (now (ends .entry)) literals count ⌝ }
+    ensures { λ r. ⌜ r ≡ checks.checkFormulaInvariantCall n (now (lits .entry)) (now (ends .entry)) literals clauses ⌝ }
 {
     if n > MAX_VARS {
         return Checked::Refused(MANY_VARS);
     }
-    if lits.len() != literals as usize {
-        return Checked::Refused(BAD_LENGTH);
-    }
-    if ends.len() != count as usize {
-        return Checked::Refused(BAD_LENGTH);
-    }
-    if !check_list(lits, ends) {
-        return Checked::Refused(BAD_CLAUSES);
+    let status = list_refusal(lits, ends, literals, clauses);
+    if status != 0 {
+        return Checked::Refused(status);
     }
     Checked::Answer(check_formula(n, lits, ends))
 }
