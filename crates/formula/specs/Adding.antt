@@ -1,6 +1,6 @@
--- One more clause on a good list: its codes behind the others, its end behind the ends. Assumes nothing.
+-- The list without clauses, and one more clause on a good list: its codes behind the others, its end behind the ends. Assumes nothing.
 use Prim.Native.Nat.{ℕ, _+_, _-_, _≤_, _<_}
-use mathlib.Core.Path.{_≡_}
+use mathlib.Core.Path.{_≡_, refl}
 use mathlib.Core.Logic.{by-cases}
 use mathlib.Core.Bool.{true, _&&_}
 use mathlib.Core.List.{List, [], _∷_, _++_}
@@ -11,12 +11,16 @@ use lib.ListN.{length, getD, drop, length-append, length-drop, List·getD-append
 use lib.Dec.{leb, ltb}
 use lib.Seq.{getD-append-seam, getD-append-add, take-append-le, drop-append-le, drop-append-seam, take-length}
 use Rattle.laws.specs.Tests.{and-left, and-right, and-both, same-test}
-use Rattle.laws.specs.Every.{every-at, every-all}
+use Rattle.laws.specs.Every.{every, every-at, every-all}
 use Rattle.lit.specs.Numbers.{maxClauses, maxLiterals}
 use Rattle.lit.specs.Lits.{index}
-use Rattle.formula.specs.Clauses.{start, clause, clausesOk, clauseFits, varsBelow, varBelow}
+use Rattle.formula.specs.Clauses.{start, clause, endsOk, listOk, clausesOk, clauseFits, varsBelow, varBelow}
 use Rattle.formula.specs.Good.{GoodList, GoodClauses, clauses-facts, last-start}
 use Rattle.formula.specs.Reading.{clause-at}
+
+pub none-ok : (n : ℕ) → clausesOk n [] [] ≡ true
+unfolding clausesOk listOk endsOk varsBelow every
+none-ok n = refl
 
 -- the ends of the longer list
 abbrev pub withEnd : List ℕ → List ℕ → List ℕ → List ℕ

@@ -39,7 +39,7 @@ checkEach n (c ∷ cs) = cond (not (checkClauseInvariant n c)) Err (cond (eqb (l
 unfoldable pub checkFormulaInvariant : ℕ → List (List ℕ) → SatResult
 checkFormulaInvariant n cs = cond (eqb (length cs) 0) Sat (cond (eqb n 0) Err (checkEach n cs))
 
--- The refusal of a clause list with its stated counts, where the variables may be any: 5, then 6, or 0 for none.
+-- The refusal of a clause list with its stated counts, variables left aside: 5, then 6, or 0 for none.
 unfoldable pub listRefusal : List ℕ → List ℕ → ℕ → ℕ → ℕ
 listRefusal lits ends literals clauses =
     cond (not (eqb (length lits) literals && eqb (length ends) clauses)) badLength
@@ -65,7 +65,7 @@ checkFormulaInvariantCall n lits ends literals count =
     cond (ltb maxVars n) (checked.Refused manyVars)
     (checkedUnless (listRefusal lits ends literals count) (checkFormulaInvariant n (clauses lits ends)))
 
--- Document 01's numbers: status 0 and the reply, or the refusal and NONE.
+-- The numbers: status 0 and the reply, or the refusal and NONE. The answers of a formula are numbered in document 01's order.
 unfoldable pub satNumber : SatResult → ℕ
 satNumber Err = 0
 satNumber Sat = 1

@@ -8,10 +8,11 @@ use Rattle.laws.specs.Every.{every}
 use Rattle.lit.specs.Numbers.{maxClauses, maxLiterals}
 use Rattle.lit.specs.Lits.{checkLitInvariant}
 
--- where clause i starts: at 0, or where the one before it ends. At the number of clauses this is the last end, and 0 without clauses
+-- where clause i starts: at 0, or where the one before it ends. Past the last clause it is the last end, and 0 without clauses
 abbrev pub start : List ℕ → ℕ → ℕ
 start ends i = getD (0 ∷ ends) i 0
 
+-- the codes from one place up to another
 abbrev pub part : ℕ → ℕ → List ℕ → List ℕ
 part from to lits = take (to - from) (drop from lits)
 

@@ -1,3 +1,4 @@
+-- `check_clause_invariant`: the refusals in order, then the pass over the clause with fresh marks.
 use borrow.Author.Needs.{needs}
 use borrow.Author.Tests.{lt-ltb, le-ltb, eq-eqb, ne-eqb}
 use Rattle.lit.specs.Numbers.{maxVars}

@@ -1,3 +1,4 @@
+-- `check_clauses`: the list, then its variables.
 use mathlib.Core.Path.{sym, _∙_}
 use borrow.Author.Needs.{needs}
 use Rattle.formula.specs.Clauses.{clausesOk}

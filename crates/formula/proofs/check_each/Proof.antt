@@ -1,4 +1,4 @@
--- `check_each`: the clauses from i on give the answer.
+-- `check_each`: the clauses from i on give the answer, and no variable has the mark of clause i or a later one.
 use Prim.Native.Nat.{ℕ, _+_, _-_, _≤_, _<_}
 use mathlib.Core.Path.{_≡_, refl, sym, _∙_}
 use mathlib.Core.Bool.{not, cond}
@@ -17,6 +17,7 @@ use Rattle.formula.specs.Marks.{Unmarked, fresh-marks}
 use Rattle.formula.proofs.check_each.Statement.{statement}
 use Rattle.formula.proofs.check_each.Tie as tie
 
+-- the answer is that of the clauses from i on
 record Rest (n : ℕ) (lits ends : List ℕ) (i : ℕ) : Type 0 where
   within : i ≤ length ends
   rest : checkEach n (clauses lits ends) ≡ checkEach n (drop i (clauses lits ends))

@@ -1,3 +1,4 @@
+-- `check_formula`: the two tests before the loop.
 use borrow.Author.Needs.{needs}
 use borrow.Author.Tests.{eq-eqb, ne-eqb}
 use Rattle.formula.specs.Reading.{length-clauses}

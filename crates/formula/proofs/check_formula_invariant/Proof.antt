@@ -1,3 +1,4 @@
+-- `check_formula_invariant`: the refusals in order, then the check of a list that is good by then.
 use Prim.Native.Nat.{ℕ}
 use mathlib.Core.Path.{_≡_, refl, sym, _∙_}
 use mathlib.Core.Bool.{Bool, true, false, _&&_, not, cond}

@@ -1,3 +1,4 @@
+-- `clause`: the part between the two ends.
 use borrow.Author.Needs.{needs}
 use Rattle.formula.proofs.clause.Statement.{statement}
 use Rattle.formula.proofs.clause.Tie as tie

@@ -1,3 +1,4 @@
+-- `clause_fits`: the limits, then the variables.
 use borrow.Author.Needs.{needs}
 use borrow.Author.Tests.{lt-ltb, le-ltb, le-leb, lt-leb}
 use Rattle.formula.specs.Clauses.{clauseFits}

@@ -1,3 +1,4 @@
+-- `list_refusal`: both lengths, then the list.
 use borrow.Author.Needs.{needs}
 use borrow.Author.Tests.{eq-eqb, ne-eqb}
 use Rattle.formula.specs.Checks.{listRefusal}

@@ -1,3 +1,4 @@
+-- `no_duplicates`: the refusals in order, then the pairs of literals.
 use borrow.Author.Needs.{needs}
 use borrow.Author.Tests.{eq-eqb, ne-eqb}
 use Rattle.formula.specs.Checks.{noDuplicatesCall}

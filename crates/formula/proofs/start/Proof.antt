@@ -1,3 +1,4 @@
+-- `start`: a clause but the first starts where the one before it ends.
 use mathlib.Core.Path.{sym}
 use native.Mathlib.Omega.{arith}
 use borrow.Author.Needs.{needs}
