@@ -1,5 +1,5 @@
 -- Tests: what a conjunction, a negation and a choice say. Assumes nothing.
-use mathlib.Core.Path.{_≡_, refl}
+use mathlib.Core.Path.{_≡_, refl, sym}
 use mathlib.Core.Bool.{Bool, true, false, _&&_, _||_, not, cond}
 
 pub and-left : (a b : Bool) → a && b ≡ true → a ≡ true
@@ -13,6 +13,14 @@ and-right false false e = e
 
 pub and-both : {a b : Bool} → a ≡ true → b ≡ true → a && b ≡ true
 and-both p q = rw (p, q)
+
+pub and-true : (a : Bool) → a && true ≡ a
+and-true true = refl
+and-true false = refl
+
+pub and-false : (a : Bool) → a && false ≡ false
+and-false true = refl
+and-false false = refl
 
 -- a test that cannot hold is false, and one that cannot fail is true
 pub not-true : (t : Bool) → (t ≡ true → ⊥) → t ≡ false
@@ -36,3 +44,9 @@ module _ {A : Type 0} where
   pub cond-then : (t : Bool) {a b : A} (c : A) → (t ≡ true → a ≡ b) → cond t a c ≡ cond t b c
   cond-then true c f = f refl
   cond-then false c f = refl
+
+-- two tests that hold together are one
+pub same-test : (a b : Bool) → (a ≡ true → b ≡ true) → (b ≡ true → a ≡ true) → a ≡ b
+same-test true b f g = sym (f refl)
+same-test false true f g = g refl
+same-test false false f g = refl

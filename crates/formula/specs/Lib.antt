@@ -1,0 +1,9 @@
+-- The clause list and its check; the three checks of the source.
+pub mod Clauses
+pub mod Good
+pub mod Reading
+pub mod Adding
+pub mod Checks
+pub mod Marks
+pub mod Distinct
+pub mod CaseL
