@@ -1,0 +1,2 @@
+-- Term 3 proved: facts of books, the trail's memory by the book, going back, each call, and the claim.
+pub mod Books
