@@ -1,2 +1,5 @@
 -- Term 3 proved: facts of books, the trail's memory by the book, going back, each call, and the claim.
 pub mod Books
+pub mod Memory
+pub mod Going
+pub mod Steps

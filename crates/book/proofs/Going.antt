@@ -1,0 +1,132 @@
+-- Going back does what the book says: the trail by the entries that are dropped, the chooser by their variables, last first.
+use Prim.Native.Nat.{ℕ, zero, suc, _+_, _-_, _/_, _%_, _≤_, _<_}
+use mathlib.Core.Path.{_≡_, refl, sym, ap, _∙_}
+use mathlib.Core.Bool.{Bool, true, false, cond}
+use mathlib.Core.List.{List, [], _∷_, _++_, map, reverse, reverse-append, map-append}
+use native.Mathlib.Omega.{arith}
+use native.Mathlib.Nat.{sub-zero}
+use lib.ListN.{length, getD, set, replicate, take, drop, length-drop}
+use lib.Seq.{take-length, take-at, drop-length, drop-append-le, set-set}
+use lib.Dec.{ltb}
+use borrow.Author.Tests.{ltb-true, ltb-false}
+use Rattle.laws.specs.Tests.{cond-elim}
+use Rattle.lit.specs.Numbers.{NONE, unassigned}
+use Rattle.lit.specs.Lits.{index, polarity}
+use Rattle.trail.specs.Trail.{Trail, last, backstep, backsteps, closeLevels, rewind, howMany, backtrackTo, undone}
+use Rattle.book.specs.Book.{Entry, entry, Book, presentLevel, back, codes, openings, valuesOf}
+use Rattle.book.specs.Chooser.{Chooser}
+use Rattle.book.specs.Session.{Session, offerAll, wentBack}
+use Rattle.book.specs.Claim.{padded}
+use Rattle.book.proofs.Books.{level-le, length-openings, length-codes, back-same, Back, back-facts, Fine, fine-add, fine-drop, fine-length}
+use Rattle.book.proofs.Memory.{pad-at, Holds, Held, set-same, last-is, backstep-held, backsteps-held, close-held, rewind-held}
+
+abbrev pub variable : Entry → ℕ
+variable (entry c r o) = index c
+
+-- how many entries a going back to l drops
+abbrev dropped : ℕ → Book → ℕ
+dropped l b = length b - length (back l b)
+
+-- the codes of the k newest entries, read backwards
+newest : (k : ℕ) (b : Book) → k ≤ length b → reverse (map index (drop (length b - k) (codes b))) ≡ map variable (take k b)
+unfolding codes
+newest zero b h =
+    let q : length b - 0 ≡ length (codes b) = omega (arith, length-codes b) in
+    rw (q, drop-length)
+newest (suc k) [] h = absurd (omega arith)
+newest (suc k) (entry c r o ∷ b) h =
+    let q : suc (length b) - suc k ≡ length b - k = omega arith in
+    let q2 : length b - k ≤ length (codes b) = omega (arith, length-codes b) in
+    rw (q, drop-append-le (length b - k) (codes b) (c ∷ []) q2, map-append index, reverse-append) (ap {B = List ℕ} (λ vs. index c ∷ vs) (newest k b (omega arith)))
+
+-- what going back undoes is the variables of the dropped entries
+undone-is : (n l : ℕ) (b : Book) (t : Trail) → l < presentLevel b → Holds n b t → (howMany l t ≡ dropped l b) × (undone l t ≡ map variable (take (dropped l b) b))
+unfolding undone padded
+undone-is n l b t h g =
+    let f : Back l b (back l b) = back-facts l b h in
+    let ho : l < length (openings b) = rw (length-openings b) h in
+    let p : getD (t .opened) l 0 ≡ length (back l b) = ap (λ (x : List ℕ). getD x l 0) (g .opened) ∙ pad-at n (openings b) l ho ∙ f .place in
+    let q : t .len - getD (t .opened) l 0 ≡ dropped l b = omega (arith, g .len) in
+    let k : length (back l b) ≡ length b - dropped l b = omega (arith, f .len) in
+    let kc : length b - dropped l b ≤ length (codes b) = omega (arith, length-codes b) in
+    let kd : length (drop (length b - dropped l b) (codes b)) ≡ dropped l b = omega (arith, length-drop (length b - dropped l b) (codes b), length-codes b) in
+    (q, rw (q, g .trail, p ∙ k, drop-append-le (length b - dropped l b) (codes b) (replicate (n - length (codes b)) NONE) kc,
+    take-at (drop (length b - dropped l b) (codes b)) (replicate (n - length (codes b)) NONE) (dropped l b) kd) (newest (dropped l b) b (omega arith)))
+
+-- the trail after going back holds the book gone back
+back-holds : (n m l : ℕ) (b : Book) (t : Trail) → Fine n m b → l < presentLevel b → Holds n b t → Holds n (back l b) (backtrackTo l t)
+unfolding backtrackTo
+back-holds n m l b t fine h g =
+    let f : Back l b (back l b) = back-facts l b h in
+    let (q, vs) = undone-is n l b t h g in
+    let lo : length (openings b) ≡ presentLevel b = length-openings b in
+    let ho : length (openings b) ≤ n = omega (arith, level-le b, fine-length n m fine) in
+    let up : l + (t .level - l) ≡ length (openings b) = omega (arith, g .level) in
+    let u : Held n (back l b) (openings b) (backsteps (dropped l b) t) = rw (f .rest) at (backsteps-held n m (dropped l b) b (openings b) t (omega arith) fine g) in
+    let w = close-held (t .level - l) n l (back l b) (openings b) (backsteps (dropped l b) t) (omega arith) ho (rw (up, take-length) u) in
+    rw (q, f .opens) (rewind-held n (back l b) (take l (openings b)) _ w)
+
+back-curr : (l : ℕ) (t : Trail) → (backtrackTo l t) .curr ≤ (backtrackTo l t) .len
+unfolding backtrackTo rewind
+back-curr l t = omega arith
+
+module _ (n m : ℕ) (C : Chooser n m) where
+  -- s is a session that the book b fits, and its chooser is good for these switches
+  pub record Good (b : Book) (on : ℕ → Bool) (s : Session n m C) : Type 0 where
+    pub fine : Fine n m b
+    pub holds : Holds n b (s .trail)
+    pub curr : s .trail .curr ≤ s .trail .len
+    pub ok : C .ok (valuesOf n b) on (s .chooser)
+
+  -- the chooser is offered the variables of the k newest entries
+  offers : (k : ℕ) (b : Book) (on : ℕ → Bool) (c : C .State) → Fine n m b → C .ok (valuesOf n b) on c → C .ok (valuesOf n (drop k b)) on (offerAll n m C (map variable (take k b)) c)
+  unfolding offerAll valuesOf
+  offers zero b on c f q = q
+  offers (suc k) [] on c f q = q
+  offers (suc k) (entry x r o ∷ b) on c (fine-add h g e f) q =
+      let q2 : C .ok (valuesOf n b) on (C .offer (index x) c) = rw (set-set, set-same (valuesOf n b) (index x) unassigned e) at (C .offer-ok (index x) c h q) in
+      offers k b on (C .offer (index x) c) f q2
+
+  pub went : (l : ℕ) (b : Book) (on : ℕ → Bool) (s : Session n m C) → Good b on s → Good (back l b) on (wentBack n m C l s)
+  unfolding wentBack
+  went l b on s g = cond-elim (Good (back l b) on) (ltb l (s .trail .level)) down still
+    where
+      present : s .trail .level ≡ presentLevel b
+      present = g .holds .level ∙ length-openings b
+
+      still : ltb l (s .trail .level) ≡ false → Good (back l b) on s
+      still e =
+          let h : presentLevel b ≤ l = omega (arith, present, ltb-false l (s .trail .level) e) in
+          rw (back-same l b h) g
+
+      down : ltb l (s .trail .level) ≡ true → Good (back l b) on (record { trail = backtrackTo l (s .trail); chooser = offerAll n m C (undone l (s .trail)) (s .chooser) })
+      down e =
+          let h : l < presentLevel b = omega (arith, present, ltb-true l (s .trail .level) e) in
+          let f : Back l b (back l b) = back-facts l b h in
+          record {
+            fine = rw (f .rest) at (fine-drop (dropped l b) (g .fine));
+            holds = back-holds n m l b (s .trail) (g .fine) h (g .holds);
+            curr = back-curr l (s .trail);
+            ok = rw (undone-is n l b (s .trail) h (g .holds) .1) (rw (f .rest) at (offers (dropped l b) b on (s .chooser) (g .fine) (g .ok)));
+          }
+
+  -- ---- the first loop of `backtrack_to` as the source has it: `backstep`, and at once its variable to `insert`; k times
+  unfoldable pub interleaved : ℕ → Session n m C → Session n m C
+  interleaved zero s = s
+  interleaved (suc k) s = interleaved k (record { trail = backstep (s .trail); chooser = C .offer (last (s .trail)) (s .chooser) })
+
+  in-turn : (k : ℕ) (b : Book) (ops : List ℕ) (t : Trail) (c : C .State) → k ≤ length b → Fine n m b → Held n b ops t
+      → interleaved k (record { trail = t; chooser = c }) ≡ record { trail = backsteps k t; chooser = offerAll n m C (map variable (take k b)) c }
+  unfolding interleaved backsteps offerAll
+  in-turn zero b ops t c h f g = refl
+  in-turn (suc k) [] ops t c h f g = absurd (omega arith)
+  in-turn (suc k) (entry x r o ∷ b) ops t c h (fine-add hx hr e f) g =
+      rw (last-is n x r o b ops t g) (in-turn k b ops (backstep t) (C .offer (index x) c) (omega arith) f (backstep-held n m x r o b ops t (fine-add hx hr e f) g))
+
+  -- the trail and the chooser may be moved one after the other
+  pub apart : (l : ℕ) (b : Book) (on : ℕ → Bool) (s : Session n m C) → Good b on s → l < s .trail .level
+      → interleaved (howMany l (s .trail)) s ≡ record { trail = backsteps (howMany l (s .trail)) (s .trail); chooser = offerAll n m C (undone l (s .trail)) (s .chooser) }
+  apart l b on s g h =
+      let hb : l < presentLevel b = omega (arith, g .holds .level, length-openings b) in
+      let (q, vs) = undone-is n l b (s .trail) hb (g .holds) in
+      rw (q, vs) (in-turn (dropped l b) b (openings b) (s .trail) (s .chooser) (omega arith) (g .fine) (g .holds))
