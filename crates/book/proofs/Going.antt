@@ -49,9 +49,16 @@ undone-is n l b t h g =
     let q : t .len - getD (t .opened) l 0 ≡ dropped l b = omega (arith, g .len) in
     let k : length (back l b) ≡ length b - dropped l b = omega (arith, f .len) in
     let kc : length b - dropped l b ≤ length (codes b) = omega (arith, length-codes b) in
-    let kd : length (drop (length b - dropped l b) (codes b)) ≡ dropped l b = omega (arith, length-drop (length b - dropped l b) (codes b), length-codes b) in
-    (q, rw (q, g .trail, p ∙ k, drop-append-le (length b - dropped l b) (codes b) (replicate (n - length (codes b)) NONE) kc,
-    take-at (drop (length b - dropped l b) (codes b)) (replicate (n - length (codes b)) NONE) (dropped l b) kd) (newest (dropped l b) b (omega arith)))
+    let kd : length (drop (length b - dropped l b) (codes b)) ≡ dropped l b = omega (arith, length-drop (length b - dropped l b) (codes b), length-codes b) in (
+      q,
+      rw (
+        q,
+        g .trail,
+        p ∙ k,
+        drop-append-le (length b - dropped l b) (codes b) (replicate (n - length (codes b)) NONE) kc,
+        take-at (drop (length b - dropped l b) (codes b)) (replicate (n - length (codes b)) NONE) (dropped l b) kd,
+      ) (newest (dropped l b) b (omega arith)),
+    )
 
 -- the trail after going back holds the book gone back
 back-holds : (n m l : ℕ) (b : Book) (t : Trail) → Fine n m b → l < presentLevel b → Holds n b t → Holds n (back l b) (backtrackTo l t)
@@ -87,9 +94,9 @@ module _ (n m : ℕ) (C : Chooser n m) where
       let q2 : C .ok (valuesOf n b) on (C .offer (index x) c) = rw (set-set, set-same (valuesOf n b) (index x) unassigned e) at (C .offer-ok (index x) c h q) in
       offers k b on (C .offer (index x) c) f q2
 
-  pub went : (l : ℕ) (b : Book) (on : ℕ → Bool) (s : Session n m C) → Good b on s → Good (back l b) on (wentBack n m C l s)
+  pub went : (l : ℕ) {b : Book} {on : ℕ → Bool} (s : Session n m C) → Good b on s → Good (back l b) on (wentBack n m C l s)
   unfolding wentBack
-  went l b on s g = cond-elim (Good (back l b) on) (ltb l (s .trail .level)) down still
+  went l {b} {on} s g = cond-elim (Good (back l b) on) (ltb l (s .trail .level)) down still
     where
       present : s .trail .level ≡ presentLevel b
       present = g .holds .level ∙ length-openings b

@@ -3,3 +3,4 @@ pub mod Books
 pub mod Memory
 pub mod Going
 pub mod Steps
+pub mod Term3

@@ -69,10 +69,10 @@ module _ (n m : ℕ) (C : Chooser n m) where
         go none q = refused c largeStep refl
         go (some d) q = accepted-good c none (withChooser n m C d s) e2 (rw e (with-good d q))
 
-    enqueued-good : (code reason : ℕ) (b : Book) (o : ℕ → Bool) (u : Session n m C) → Good n m C b o u → index code < n → goodReason m reason ≡ true
+    enqueued-good : (code reason : ℕ) {b : Book} {o : ℕ → Bool} (u : Session n m C) → Good n m C b o u → index code < n → goodReason m reason ≡ true
         → not (isAssigned (u .trail .values) (index code)) ≡ true → Good n m C (entry code reason false ∷ b) o (enqueued n m C code reason u)
     unfolding enqueued enqAssignment valuesOf
-    enqueued-good code reason b o u gu h hr a =
+    enqueued-good code reason {b} {o} u gu h hr a =
         let e : getD (valuesOf n b) (index code) 0 ≡ unassigned
         = is-unassigned n m (gu .fine) (index code) h (rw (gu .holds .values) at (not-true (isAssigned (u .trail .values) (index code)) a)) in
         record {
@@ -129,13 +129,13 @@ module _ (n m : ℕ) (C : Chooser n m) where
         needed (enqueue code reason) noVariable (ltb (index code) n) refl (λ h.
         needed (enqueue code reason) badReason (goodReason m reason) refl (λ hr.
         needed (enqueue code reason) assigned (not (isAssigned (s .trail .values) (index code))) refl (λ a.
-        accepted-good (enqueue code reason) none _ refl (enqueued-good code reason (book ls) (counts (C .switches) ls) s g (ltb-true (index code) n h) hr a))))
+        accepted-good (enqueue code reason) none _ refl (enqueued-good code reason s g (ltb-true (index code) n h) hr a))))
     kept (learnUnit code) =
         needed (learnUnit code) noVariable (ltb (index code) n) refl (λ h.
         needed (learnUnit code) assigned (not (isAssigned ((wentBack n m C 0 s) .trail .values) (index code))) refl (λ a.
         accepted-good (learnUnit code) none _ refl
-        (enqueued-good code NONE (back 0 (book ls)) (counts (C .switches) ls) (wentBack n m C 0 s) (went n m C 0 (book ls) (counts (C .switches) ls) s g) (ltb-true (index code) n h) refl a)))
-    kept (goBack l) = accepted-good (goBack l) _ _ refl (went n m C l (book ls) (counts (C .switches) ls) s g)
+        (enqueued-good code NONE (wentBack n m C 0 s) (went n m C 0 s g) (ltb-true (index code) n h) refl a)))
+    kept (goBack l) = accepted-good (goBack l) _ _ refl (went n m C l s g)
     kept (bumpReason v) =
         needed (bumpReason v) noVariable (ltb v n) refl (λ h.
         tune-kept (bumpReason v) (bumpReasonLiterals (getD (s .trail .reasons) v 0)) (reason-fits v (ltb-true v n h)) refl refl)
