@@ -117,30 +117,31 @@ unfolding reasonsOf
 length-reasons n [] = length-replicate n NONE
 length-reasons n (entry c r o ∷ b) = simp length-set (length-reasons n b)
 
-pub length-levels : (n : ℕ) (b : Book) → length (levelsOf n b) ≡ n
-unfolding levelsOf
-length-levels n [] = length-replicate n NONE
-length-levels n (entry c r o ∷ b) = simp length-set (length-levels n b)
-
 -- what a good book says of one variable
-pub record Says (m value reason : ℕ) : Type 0 where
+pub record Says (m value reason level : ℕ) : Type 0 where
   pub value-le : value ≤ unassigned
-  pub no-reason : value ≡ unassigned → reason ≡ NONE
   pub reason-good : goodReason m reason ≡ true
+  pub no-reason : value ≡ unassigned → reason ≡ NONE
+  pub no-level : value ≡ unassigned → level ≡ NONE
 
-pub says : (n m : ℕ) {b : Book} → Fine n m b → (v : ℕ) → v < n → Says m (getD (valuesOf n b) v 0) (getD (reasonsOf n b) v 0)
-unfolding valuesOf reasonsOf
-says n m fine-nil v h = rw (getD-replicate n v unassigned 0 h, getD-replicate n v NONE 0 h) (record { value-le = omega arith; no-reason = λ e. refl; reason-good = refl })
-says n m (fine-add {c = c} {r = r} {b = b} hc g e f) v h = go (ℕ-discrete v (index c)) (says n m f v h)
+pub says : (n m : ℕ) {b : Book} → Fine n m b → (v : ℕ) → v < n → Says m (getD (valuesOf n b) v 0) (getD (reasonsOf n b) v 0) (getD (levelsOf n b) v 0)
+unfolding valuesOf reasonsOf levelsOf
+says n m fine-nil v h =
+    rw (getD-replicate n v unassigned 0 h, getD-replicate n v NONE 0 h)
+    (record { value-le = omega arith; reason-good = refl; no-reason = λ e. refl; no-level = λ e. refl })
+says n m (fine-add {c = c} {r = r} {o = o} {b = b} hc g e f) v h = go (ℕ-discrete v (index c)) (says n m f v h)
   where
-    go : Dec (v ≡ index c) → Says m (getD (valuesOf n b) v 0) (getD (reasonsOf n b) v 0)
-        → Says m (getD (set (valuesOf n b) (index c) (polarity c)) v 0) (getD (set (reasonsOf n b) (index c) r) v 0)
+    l : ℕ
+    l = presentLevel (entry c r o ∷ b)
+
+    go : Dec (v ≡ index c) → Says m (getD (valuesOf n b) v 0) (getD (reasonsOf n b) v 0) (getD (levelsOf n b) v 0)
+        → Says m (getD (set (valuesOf n b) (index c) (polarity c)) v 0) (getD (set (reasonsOf n b) (index c) r) v 0) (getD (set (levelsOf n b) (index c) l) v 0)
     go (yes z) ih =
         let hv : index c < length (valuesOf n b) = rw (length-values n b) hc in
         let hr : index c < length (reasonsOf n b) = rw (length-reasons n b) hc in
         rw (z, getD-set-same (valuesOf n b) (index c) (polarity c) 0 hv, getD-set-same (reasonsOf n b) (index c) r 0 hr)
-        (record { value-le = omega arith; no-reason = λ q. absurd (omega arith); reason-good = g })
-    go (no z) ih = rw (getD-set-other (valuesOf n b) (index c) v (polarity c) 0 z, getD-set-other (reasonsOf n b) (index c) v r 0 z) ih
+        (record { value-le = omega arith; reason-good = g; no-reason = λ q. absurd (omega arith); no-level = λ q. absurd (omega arith) })
+    go (no z) ih = rw (getD-set-other (valuesOf n b) (index c) v (polarity c) 0 z, getD-set-other (reasonsOf n b) (index c) v r 0 z, getD-set-other (levelsOf n b) (index c) v l 0 z) ih
 
 pub is-unassigned : (n m : ℕ) {b : Book} → Fine n m b → (v : ℕ) → v < n → isAssigned (valuesOf n b) v ≡ false → getD (valuesOf n b) v 0 ≡ unassigned
 is-unassigned n m {b} f v h e = omega (arith, says n m f v h .value-le, ltb-false (getD (valuesOf n b) v 0) unassigned e)

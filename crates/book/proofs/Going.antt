@@ -16,9 +16,8 @@ use Rattle.trail.specs.Trail.{Trail, last, backstep, backsteps, closeLevels, re
 use Rattle.book.specs.Book.{Entry, entry, Book, presentLevel, back, codes, openings, valuesOf}
 use Rattle.book.specs.Chooser.{Chooser}
 use Rattle.book.specs.Session.{Session, offerAll, wentBack}
-use Rattle.book.specs.Claim.{padded}
 use Rattle.book.proofs.Books.{level-le, length-openings, length-codes, back-same, Back, back-facts, Fine, fine-add, fine-drop, fine-length}
-use Rattle.book.proofs.Memory.{pad-at, Holds, Held, set-same, last-is, backstep-held, backsteps-held, close-held, rewind-held}
+use Rattle.book.proofs.Memory.{padded, pad-at, Holds, Held, set-same, last-is, backstep-held, backsteps-held, close-held, rewind-held}
 
 abbrev pub variable : Entry → ℕ
 variable (entry c r o) = index c

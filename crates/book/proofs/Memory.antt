@@ -1,23 +1,26 @@
 -- Each step of the trail's memory does what the book says: equations on whole lists, each by one law of `set`.
 use Prim.Native.Nat.{ℕ, zero, suc, _+_, _-_, _*_, _/_, _%_, _≤_, _<_}
 use mathlib.Core.Path.{_≡_, refl, sym, ap, _∙_}
-use mathlib.Core.Logic.{_≢_}
-use mathlib.Core.Bool.{Bool, true, false}
+use mathlib.Core.Bool.{Bool, true, false, cond}
 use mathlib.Core.List.{List, [], _∷_, _++_}
 use native.Mathlib.Omega.{arith}
 use native.Mathlib.Nat.{sub-zero}
 use native.Mathlib.Decide.{ℕ-discrete}
 use lib.ListN.{length, getD, set, replicate, take, drop, length-append, length-set, length-replicate, List·getD-append}
-use lib.Seq.{take-suc, length-take-le, set-at, getD-at, getD-set-same, getD-set-other, set-getD, set-set, append-snoc}
-use borrow.Author.Tests.{ltb-true}
+use lib.Seq.{take-at, take-append-seam, take-suc, length-take-le, set-at, getD-at, getD-set-same, getD-set-other, set-getD, set-set, append-snoc}
+use lib.Dec.{ltb}
+use borrow.Author.Tests.{lt-ltb}
 use Rattle.lit.specs.Numbers.{NONE, unassigned}
 use Rattle.lit.specs.Lits.{index, polarity, new, isAssigned}
 use Rattle.trail.specs.Trail.{Trail, freshTrail, enqAssignment, enqDecision, last, backstep, backsteps, closeLevels, rewind}
 use Rattle.book.specs.Book.{Entry, entry, Book, presentLevel, codes, openings, valuesOf, reasonsOf, levelsOf}
-use Rattle.book.specs.Claim.{padded, Told, Same}
-use Rattle.book.proofs.Books.{level-le, length-openings, length-codes, Fine, fine-add, length-levels, Says, says, room}
+use Rattle.book.specs.Claim.{assignedLevels, recordsOf, recordsIn}
+use Rattle.book.proofs.Books.{level-le, length-openings, length-codes, Fine, fine-add, Says, says, room}
 
--- ---- a list in use, and NONE behind it
+-- ---- a list in use, and NONE behind it: 'A place of trail, opened levels .. that is not in use holds NONE'
+
+unfoldable pub padded : ℕ → List ℕ → List ℕ
+padded n l = l ++ replicate (n - length l) NONE
 
 -- one more in use
 pad-snoc : (n : ℕ) (l : List ℕ) (x k : ℕ) → length l ≡ k → padded n (l ++ (x ∷ [])) ≡ l ++ x ∷ replicate (n - suc k) NONE
@@ -54,34 +57,29 @@ pub record Held (n : ℕ) (b : Book) (ops : List ℕ) (t : Trail) : Type 0 where
   pub len : t .len ≡ length b
   pub opened : t .opened ≡ padded n ops
   pub level : t .level ≡ length ops
-  pub levels : (v : ℕ) → v < n → isAssigned (valuesOf n b) v ≡ true → getD (t .levels) v 0 ≡ getD (levelsOf n b) v 0
-  pub long : length (t .levels) ≡ n
+  pub levels : assignedLevels (t .values) (t .levels) ≡ levelsOf n b
+
+-- a value and a level are stored together
+levels-set : (vs ls : List ℕ) (v p l : ℕ) → assignedLevels (set vs v p) (set ls v l) ≡ set (assignedLevels vs ls) v (cond (ltb p unassigned) l NONE)
+unfolding assignedLevels
+levels-set [] ls v p l = refl
+levels-set (x ∷ xs) [] zero p l = refl
+levels-set (x ∷ xs) [] (suc v) p l = refl
+levels-set (x ∷ xs) (y ∷ ys) zero p l = refl
+levels-set (x ∷ xs) (y ∷ ys) (suc v) p l = ap {B = List ℕ} (λ zs. cond (ltb x unassigned) y NONE ∷ zs) (levels-set xs ys v p l)
+
+levels-unset : (vs ls : List ℕ) (v : ℕ) → assignedLevels (set vs v unassigned) ls ≡ set (assignedLevels vs ls) v NONE
+levels-unset vs ls v = ap (λ (x : List ℕ). assignedLevels (set vs v unassigned) x) (sym (set-getD ls v 0)) ∙ levels-set vs ls v unassigned (getD ls v 0)
+
+levels-fresh : (n : ℕ) → assignedLevels (replicate n unassigned) (replicate n NONE) ≡ replicate n NONE
+unfolding assignedLevels
+levels-fresh zero = refl
+levels-fresh (suc n) = ap {B = List ℕ} (λ zs. NONE ∷ zs) (levels-fresh n)
 
 pub fresh-held : (n : ℕ) → Held n [] [] (freshTrail n)
 unfolding freshTrail valuesOf reasonsOf levelsOf codes padded
-fresh-held n = record {
-  values = refl;
-  reasons = refl;
-  trail = rw (sub-zero n);
-  len = refl;
-  opened = rw (sub-zero n);
-  level = refl;
-  levels = λ v h a. refl;
-  long = length-replicate n NONE;
-}
-
--- levels, when a variable v that was unassigned gets one
-levels-add : (n : ℕ) (b : Book) (ls : List ℕ) (v p l : ℕ) → length ls ≡ n → v < n
-    → ((w : ℕ) → w < n → isAssigned (valuesOf n b) w ≡ true → getD ls w 0 ≡ getD (levelsOf n b) w 0)
-    → (w : ℕ) → w < n → isAssigned (set (valuesOf n b) v p) w ≡ true → getD (set ls v l) w 0 ≡ getD (set (levelsOf n b) v l) w 0
-levels-add n b ls v p l hl hv f w hw a = go (ℕ-discrete w v)
-  where
-    go : Dec (w ≡ v) → getD (set ls v l) w 0 ≡ getD (set (levelsOf n b) v l) w 0
-    go (yes z) =
-        let h : v < length ls = rw hl hv in
-        let k : v < length (levelsOf n b) = rw (length-levels n b) hv in
-        rw z (getD-set-same ls v l 0 h ∙ sym (getD-set-same (levelsOf n b) v l 0 k))
-    go (no z) = rw (getD-set-other ls v w l 0 z, getD-set-other (levelsOf n b) v w l 0 z) (f w hw (rw (getD-set-other (valuesOf n b) v w p 0 z) at a))
+fresh-held n =
+    record { values = refl; reasons = refl; trail = rw (sub-zero n); len = refl; opened = rw (sub-zero n); level = refl; levels = levels-fresh n }
 
 -- the memory t is what the book b says
 abbrev pub Holds : ℕ → Book → Trail → Type 0
@@ -97,8 +95,7 @@ enq-holds n m code reason b t f h e g = record {
   len = omega (arith, g .len);
   opened = g .opened;
   level = g .level;
-  levels = rw (g .level, length-openings b) (levels-add n b (t .levels) (index code) (polarity code) (presentLevel b) (g .long) h (g .levels));
-  long = simp length-set (g .long);
+  levels = rw (levels-set (t .values) (t .levels) (index code) (polarity code) (t .level), lt-ltb (polarity code) unassigned (omega arith), g .levels, g .level, length-openings b);
 }
 
 -- storing what stands there
@@ -120,8 +117,7 @@ dec-holds n m v p b t f h hp e g =
       len = omega (arith, g .len);
       opened = rw (g .opened, g .level, g .len) (pad-push n (openings b) (length b) (length (openings b)) refl hl);
       level = omega (arith, g .level, length-append (openings b) (length b ∷ []));
-      levels = rw (q1, q2, g .level, length-openings b) (levels-add n b (t .levels) v p (presentLevel b + 1) (g .long) h (g .levels));
-      long = simp length-set (g .long);
+      levels = rw (q1, levels-set (t .values) (t .levels) v p (t .level + 1), lt-ltb p unassigned hp, g .levels, g .level, length-openings b);
     }
 
 -- ---- going back
@@ -144,10 +140,7 @@ backstep-held n m c r o b ops t (fine-add h _ e f) g =
       len = q;
       opened = g .opened;
       level = g .level;
-      levels = λ w hw a.
-          let z : w ≢ index c = λ z. let e2 : getD (valuesOf n b) w 0 ≡ unassigned = rw z e in omega (arith, ltb-true (getD (valuesOf n b) w 0) unassigned a) in
-          g .levels w hw (rw (getD-set-other (valuesOf n b) (index c) w (polarity c) 0 z) a) ∙ getD-set-other (levelsOf n b) (index c) w (presentLevel (entry c r o ∷ b)) 0 z;
-      long = g .long;
+      levels = rw (v, levels-unset (t .values) (t .levels) (index c), g .levels, set-set) (set-same (levelsOf n b) (index c) NONE (says n m f (index c) h .no-level e));
     }
 
 pub backsteps-held : (n m k : ℕ) (b : Book) (ops : List ℕ) (t : Trail) → k ≤ length b → Fine n m b → Held n b ops t → Held n (drop k b) ops (backsteps k t)
@@ -175,34 +168,17 @@ close-held (suc k) n j b ops t h hn g =
       opened = rw (q2, g1 .opened, take-suc ops (j + k) 0 h1) (pad-pop n (take (j + k) ops) (getD ops (j + k) 0) (j + k) (length-take-le (j + k) ops (omega arith)) (omega arith));
       level = q2 ∙ sym (length-take-le (j + k) ops (omega arith));
       levels = g .levels;
-      long = g .long;
     })
 
 pub rewind-held : (n : ℕ) (b : Book) (ops : List ℕ) (t : Trail) → Held n b ops t → Held n b ops (rewind t)
 unfolding rewind
 rewind-held n b ops t g =
-    record { values = g .values; reasons = g .reasons; trail = g .trail; len = g .len; opened = g .opened; level = g .level; levels = g .levels; long = g .long }
+    record { values = g .values; reasons = g .reasons; trail = g .trail; len = g .len; opened = g .opened; level = g .level; levels = g .levels }
 
--- ---- the claim's words
-
-pub told : (n : ℕ) {b : Book} {t : Trail} → Holds n b t → Told n b t
-told n {b} {t} g = record {
-  values = g .values;
-  reasons = g .reasons;
-  trail = g .trail;
-  len = g .len;
-  opened = g .opened;
-  level = g .level ∙ length-openings b;
-  levels = λ v h a. g .levels v h (rw (g .values) at a);
-}
-
-pub same : (n : ℕ) {b : Book} {t u : Trail} → Told n b t → Told n b u → Same n t u
-same n {b} {t} {u} g k = record {
-  values = cc;
-  reasons = cc;
-  trail = cc;
-  len = cc;
-  opened = cc;
-  level = cc;
-  levels = λ v h a. g .levels v h a ∙ sym (k .levels v h (rw (g .values ∙ sym (k .values)) at a));
-}
+-- the records of the claim are the book's
+pub told : (n : ℕ) {b : Book} {t : Trail} → Holds n b t → recordsOf t ≡ recordsIn n b
+unfolding recordsOf recordsIn padded
+told n {b} {t} g =
+    let trail : take (t .len) (t .trail) ≡ codes b = rw (g .len, g .trail) (take-at (codes b) (replicate (n - length (codes b)) NONE) (length b) (length-codes b)) in
+    let opened : take (t .level) (t .opened) ≡ openings b = rw (g .level, g .opened) (take-append-seam (openings b) (replicate (n - length (openings b)) NONE)) in
+    cc (length-openings b)

@@ -14,34 +14,38 @@ use Rattle.book.specs.Calls.{Call, decide, learnUnit, goBack, Line, acce
 use Rattle.book.specs.Book.{Book, presentLevel, back, book, openings, valuesOf, on, counts}
 use Rattle.book.specs.Chooser.{Next, chose, nothing, stuck, Settled, Right, Chooser}
 use Rattle.book.specs.Session.{Session, Result, fresh, accept, refuse, need, wentBack, enqueued, decided, call}
-use Rattle.book.specs.Claim.{Event, Past, log, Told, NoneRight, Same, Raises, JustBefore, here, earlier, AsThen, BackRight, UnitRight, Each, Run, begin, step, run, Claim, Term3}
-use Rattle.book.proofs.Books.{Seen, raised, over, seen, fine-nil}
-use Rattle.book.proofs.Memory.{fresh-held, told, same}
+use Rattle.book.specs.Claim.{Event, Past, log, Records, recordsOf, recordsIn, NoneRight, Raises, JustBefore, here, earlier, AsThen, BackRight, UnitRight, Each, Run, begin, step, run, Claim, Term3}
+use Rattle.book.proofs.Books.{length-openings, Seen, raised, over, seen, fine-nil}
+use Rattle.book.proofs.Memory.{fresh-held, told}
 use Rattle.book.proofs.Going.{Good, went}
 use Rattle.book.proofs.Steps.{Kept, asked, kept}
 
 -- the trails of an event are what the book said before it and after it
 abbrev pub Moment : ℕ → Event → Past → Type 0
-Moment n ev past = Told n (book (log past)) (ev .before) × Told n (book (log (ev ∷ past))) (ev .after)
+Moment n ev past = (recordsOf (ev .before) ≡ recordsIn n (book (log past))) × (recordsOf (ev .after) ≡ recordsIn n (book (log (ev ∷ past))))
+
+level-told : (n : ℕ) (b : Book) (t : Trail) → recordsOf t ≡ recordsIn n b → t .level ≡ presentLevel b
+unfolding recordsOf recordsIn
+level-told n b t e = ap (λ (x : Records). x .level) e
 
 -- what the book gone back to l says stood in the trail just before the latest decision that raised the level from l
 find : (n l : ℕ) (past : Past) → Each (Moment n) past → l < presentLevel (book (log past))
-    → (t : Trail) × JustBefore l t past × Told n (back l (book (log past))) t
+    → (t : Trail) × JustBefore l t past × (recordsOf t ≡ recordsIn n (back l (book (log past))))
 unfolding Each
 find n l [] ms h = absurd (unfold presentLevel book in (omega arith))
 find n l (ev ∷ past) (m, ms) h = go (seen l (ev .line) (log past) h) (find n l past ms)
   where
     go : Seen l (ev .line .call) (book (log past)) (book (log (ev ∷ past)))
-        → (l < presentLevel (book (log past)) → (t : Trail) × JustBefore l t past × Told n (back l (book (log past))) t)
-        → (t : Trail) × JustBefore l t (ev ∷ past) × Told n (back l (book (log (ev ∷ past)))) t
+        → (l < presentLevel (book (log past)) → (t : Trail) × JustBefore l t past × (recordsOf t ≡ recordsIn n (back l (book (log past)))))
+        → (t : Trail) × JustBefore l t (ev ∷ past) × (recordsOf t ≡ recordsIn n (back l (book (log (ev ∷ past)))))
     go (raised p e h1 h2 q) ih = (
       ev .before,
-      here (record { polarity = p; decision = e; from = m .0 .level ∙ h1; to = m .1 .level ∙ h2 }) refl,
+      here (record { polarity = p; decision = e; from = level-told n _ _ (m .0) ∙ h1; to = level-told n _ _ (m .1) ∙ h2 }) refl,
       rw q (m .0),
     )
     go (over h1 q) ih =
         let (t, j, k) = ih h1 in
-        (t, earlier (λ (r : Raises l ev). omega (arith, r .from, m .0 .level)) j, rw q k)
+        (t, earlier (λ (r : Raises l ev). omega (arith, r .from, level-told n _ _ (m .0))) j, rw q k)
 
 counts-nil : (sw : Bool) → counts sw [] ≡ (λ v. true)
 unfolding counts on
@@ -71,11 +75,11 @@ module _ (n m : ℕ) (C : Chooser n m) where
         go true stuck q a = absurd (false≢true a)
 
     -- (c)
-    as-then : (l : ℕ) → l < s .trail .level → AsThen n l ((wentBack n m C l s) .trail) past
+    as-then : (l : ℕ) → l < s .trail .level → AsThen l ((wentBack n m C l s) .trail) past
     as-then l h =
-        let hl : l < presentLevel (book (log past)) = omega (arith, told n (g .holds) .level) in
+        let hl : l < presentLevel (book (log past)) = omega (arith, g .holds .level, length-openings (book (log past))) in
         let (t, j, k) = find n l past ms hl in
-        (t, j, same n (told n (went n m C l s g .holds)) k)
+        (t, j, told n (went n m C l s g .holds) ∙ sym k)
 
     unit-after : (code : ℕ) → eqb ((call n m C s (learnUnit code)) .status) 0 ≡ true
         → (call n m C s (learnUnit code)) .session .trail ≡ enqAssignment code NONE ((wentBack n m C 0 s) .trail)

@@ -1,13 +1,13 @@
 -- Term 3: one claim on the whole list of calls, refused ones included.
-use Prim.Native.Nat.{ℕ, _+_, _-_, _<_}
+use Prim.Native.Nat.{ℕ, _+_, _<_}
 use mathlib.Core.Path.{_≡_}
 use mathlib.Core.Logic.{_↔_}
-use mathlib.Core.Bool.{Bool, true}
+use mathlib.Core.Bool.{Bool, true, cond}
 use mathlib.Core.Option.{none}
-use mathlib.Core.List.{List, [], _∷_, _++_, map}
-use lib.ListN.{length, getD, replicate}
-use Rattle.lit.specs.Numbers.{NONE}
-use Rattle.lit.specs.Lits.{isAssigned}
+use mathlib.Core.List.{List, [], _∷_, map}
+use lib.ListN.{length, take}
+use lib.Dec.{ltb}
+use Rattle.lit.specs.Numbers.{NONE, unassigned}
 use Rattle.trail.specs.Trail.{Trail, enqAssignment}
 use Rattle.book.specs.Calls.{Call, decide, learnUnit, goBack, Line, accepted}
 use Rattle.book.specs.Book.{Book, presentLevel, book, codes, openings, valuesOf, reasonsOf, levelsOf, counts}
@@ -27,35 +27,50 @@ Past = List Event
 abbrev pub log : Past → List Line
 log past = map (λ (ev : Event). ev .line) past
 
--- 'A place of trail, opened levels .. that is not in use holds NONE'
-unfoldable pub padded : ℕ → List ℕ → List ℕ
-padded n l = l ++ replicate (n - length l) NONE
+-- the levels of assigned variables; the others are unread, and NONE here
+unfoldable pub assignedLevels : List ℕ → List ℕ → List ℕ
+assignedLevels [] ls = []
+assignedLevels (x ∷ xs) [] = []
+assignedLevels (x ∷ xs) (l ∷ ls) = cond (ltb x unassigned) l NONE ∷ assignedLevels xs ls
 
--- (a) 'values, reasons, trail, opened levels and the levels of assigned variables are those in 01's book'
-pub record Told (n : ℕ) (b : Book) (t : Trail) : Type 0 where
-  pub values : t .values ≡ valuesOf n b
-  pub reasons : t .reasons ≡ reasonsOf n b
-  pub trail : t .trail ≡ padded n (codes b)
-  pub len : t .len ≡ length b
-  pub opened : t .opened ≡ padded n (openings b)
-  pub level : t .level ≡ presentLevel b
-  pub levels : (v : ℕ) → v < n → isAssigned (t .values) v ≡ true → getD (t .levels) v 0 ≡ getD (levelsOf n b) v 0
+-- 'values, reasons, trail, opened levels and the levels of assigned variables', with the two counts
+pub record Records : Type 0 where
+  pub values : List ℕ
+  pub reasons : List ℕ
+  pub trail : List ℕ
+  pub len : ℕ
+  pub opened : List ℕ
+  pub level : ℕ
+  pub levels : List ℕ
+
+-- those of the memory t, and those in the book b
+unfoldable pub recordsOf : Trail → Records
+recordsOf t = record {
+  values = t .values;
+  reasons = t .reasons;
+  trail = take (t .len) (t .trail);
+  len = t .len;
+  opened = take (t .level) (t .opened);
+  level = t .level;
+  levels = assignedLevels (t .values) (t .levels);
+}
+
+unfoldable pub recordsIn : ℕ → Book → Records
+recordsIn n b = record {
+  values = valuesOf n b;
+  reasons = reasonsOf n b;
+  trail = codes b;
+  len = length b;
+  opened = openings b;
+  level = presentLevel b;
+  levels = levelsOf n b;
+}
 
 -- (b) 'Each accepted decide in it answers "none" exactly when, by the book as it then stood, no switched-on variable is unassigned'
 abbrev pub NoneRight : ℕ → Bool → Event → Past → Type 0
 NoneRight n switches ev past =
     (p : ℕ) → ev .line .call ≡ decide p → accepted (ev .line) ≡ true
     → ev .line .reply ≡ none ↔ Settled n (valuesOf n (book (log past))) (counts switches (log past))
-
--- 'those records' of two trails are the same
-pub record Same (n : ℕ) (t u : Trail) : Type 0 where
-  pub values : t .values ≡ u .values
-  pub reasons : t .reasons ≡ u .reasons
-  pub trail : t .trail ≡ u .trail
-  pub len : t .len ≡ u .len
-  pub opened : t .opened ≡ u .opened
-  pub level : t .level ≡ u .level
-  pub levels : (v : ℕ) → v < n → isAssigned (t .values) v ≡ true → getD (t .levels) v 0 ≡ getD (u .levels) v 0
 
 -- a 'decision that raised the level from L to L+1'
 pub record Raises (l : ℕ) (ev : Event) : Type 0 where
@@ -70,18 +85,18 @@ pub data JustBefore (l : ℕ) (t : Trail) : Past → Type 0 where
   earlier : {ev : Event} {past : Past} → ¬ (Raises l ev) → JustBefore l t past → JustBefore l t (ev ∷ past)
 
 -- the records of u are 'as they were' then
-abbrev pub AsThen : ℕ → ℕ → Trail → Past → Type 0
-AsThen n l u past = (t : Trail) × JustBefore l t past × Same n u t
+abbrev pub AsThen : ℕ → Trail → Past → Type 0
+AsThen l u past = (t : Trail) × JustBefore l t past × (recordsOf u ≡ recordsOf t)
 
 -- (c) 'each accepted going back to a level L below the present one .. leaves those records as they were'
-abbrev pub BackRight : ℕ → Event → Past → Type 0
-BackRight n ev past = (l : ℕ) → ev .line .call ≡ goBack l → accepted (ev .line) ≡ true → l < ev .before .level → AsThen n l (ev .after) past
+abbrev pub BackRight : Event → Past → Type 0
+BackRight ev past = (l : ℕ) → ev .line .call ≡ goBack l → accepted (ev .line) ≡ true → l < ev .before .level → AsThen l (ev .after) past
 
 -- '(learn-unit's too, judged before it enqueues)'
-abbrev pub UnitRight : ℕ → Event → Past → Type 0
-UnitRight n ev past =
+abbrev pub UnitRight : Event → Past → Type 0
+UnitRight ev past =
     (code : ℕ) → ev .line .call ≡ learnUnit code → accepted (ev .line) ≡ true → 0 < ev .before .level
-    → (u : Trail) × AsThen n 0 u past × (ev .after ≡ enqAssignment code NONE u)
+    → (u : Trail) × AsThen 0 u past × (ev .after ≡ enqAssignment code NONE u)
 
 -- of each event, and the past that it had
 unfoldable pub Each : (Event → Past → Type 0) → Past → Type 0
@@ -115,10 +130,10 @@ module _ (n m : ℕ) (C : Chooser n m) where
   run r (c ∷ cs) = run (step r c) cs
 
   pub record Claim (r : Run) : Type 0 where
-    pub told : Told n (book (log (r .past))) (r .now .trail)
+    pub told : recordsOf (r .now .trail) ≡ recordsIn n (book (log (r .past)))
     pub noneRight : Each (NoneRight n (C .switches)) (r .past)
-    pub backRight : Each (BackRight n) (r .past)
-    pub unitRight : Each (UnitRight n) (r .past)
+    pub backRight : Each BackRight (r .past)
+    pub unitRight : Each UnitRight (r .past)
 
   -- 'For every list of a session's calls .., refused ones included'
   abbrev pub Term3 : Type 0
