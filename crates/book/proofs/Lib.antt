@@ -4,3 +4,4 @@ pub mod Memory
 pub mod Going
 pub mod Steps
 pub mod Term3
+pub mod Letter
