@@ -5,3 +5,4 @@ pub mod Going
 pub mod Steps
 pub mod Term3
 pub mod Letter
+pub mod Models
