@@ -13,11 +13,12 @@ use Rattle.laws.specs.Tests.{cond-elim}
 use Rattle.lit.specs.Numbers.{NONE, unassigned}
 use Rattle.lit.specs.Lits.{index, polarity}
 use Rattle.trail.specs.Trail.{Trail, last, backstep, backsteps, closeLevels, rewind, howMany, backtrackTo, undone}
-use Rattle.book.specs.Book.{Entry, entry, Book, presentLevel, back, codes, openings, valuesOf}
+use Rattle.book.specs.Calls.{Line}
+use Rattle.book.specs.Book.{Entry, entry, Book, presentLevel, back, book, codes, openings, valuesOf, counts}
 use Rattle.book.specs.Chooser.{Chooser}
 use Rattle.book.specs.Session.{Session, offerAll, wentBack}
 use Rattle.book.proofs.Books.{level-le, length-openings, length-codes, back-same, Back, back-facts, Fine, fine-add, fine-drop, fine-length}
-use Rattle.book.proofs.Memory.{padded, pad-at, Holds, Held, set-same, last-is, backstep-held, backsteps-held, close-held, rewind-held}
+use Rattle.book.proofs.Memory.{at, part, Holds, Held, set-same, last-is, backstep-held, backsteps-held, close-held, rewind-held}
 
 abbrev pub variable : Entry → ℕ
 variable (entry c r o) = index c
@@ -40,24 +41,13 @@ newest (suc k) (entry c r o ∷ b) h =
 
 -- what going back undoes is the variables of the dropped entries
 undone-is : (n l : ℕ) (b : Book) (t : Trail) → l < presentLevel b → Holds n b t → (howMany l t ≡ dropped l b) × (undone l t ≡ map variable (take (dropped l b) b))
-unfolding undone padded
+unfolding undone
 undone-is n l b t h g =
     let f : Back l b (back l b) = back-facts l b h in
-    let ho : l < length (openings b) = rw (length-openings b) h in
-    let p : getD (t .opened) l 0 ≡ length (back l b) = ap (λ (x : List ℕ). getD x l 0) (g .opened) ∙ pad-at n (openings b) l ho ∙ f .place in
-    let q : t .len - getD (t .opened) l 0 ≡ dropped l b = omega (arith, g .len) in
-    let k : length (back l b) ≡ length b - dropped l b = omega (arith, f .len) in
-    let kc : length b - dropped l b ≤ length (codes b) = omega (arith, length-codes b) in
-    let kd : length (drop (length b - dropped l b) (codes b)) ≡ dropped l b = omega (arith, length-drop (length b - dropped l b) (codes b), length-codes b) in (
-      q,
-      rw (
-        q,
-        g .trail,
-        p ∙ k,
-        drop-append-le (length b - dropped l b) (codes b) (replicate (n - length (codes b)) NONE) kc,
-        take-at (drop (length b - dropped l b) (codes b)) (replicate (n - length (codes b)) NONE) (dropped l b) kd,
-      ) (newest (dropped l b) b (omega arith)),
-    )
+    let ln : t .len ≡ length b = g .trail .count ∙ length-codes b in
+    let p : getD (t .opened) l 0 ≡ length b - dropped l b = omega (arith, at n l (omega (arith, g .opened .count, length-openings b)) (g .opened), f .place, f .len) in
+    let q : t .len - getD (t .opened) l 0 ≡ dropped l b = omega (arith, f .len) in
+    (q, rw (q, p, part n (length b - dropped l b) (dropped l b) (omega (arith, f .len)) (g .trail)) (newest (dropped l b) b (omega arith)))
 
 -- the trail after going back holds the book gone back
 back-holds : (n m l : ℕ) (b : Book) (t : Trail) → Fine n m b → l < presentLevel b → Holds n b t → Holds n (back l b) (backtrackTo l t)
@@ -66,23 +56,21 @@ back-holds n m l b t fine h g =
     let f : Back l b (back l b) = back-facts l b h in
     let (q, vs) = undone-is n l b t h g in
     let lo : length (openings b) ≡ presentLevel b = length-openings b in
-    let ho : length (openings b) ≤ n = omega (arith, level-le b, fine-length n m fine) in
-    let up : l + (t .level - l) ≡ length (openings b) = omega (arith, g .level) in
+    let up : l + (t .level - l) ≡ length (openings b) = omega (arith, g .opened .count) in
     let u : Held n (back l b) (openings b) (backsteps (dropped l b) t) = rw (f .rest) at (backsteps-held n m (dropped l b) b (openings b) t (omega arith) fine g) in
-    let w = close-held (t .level - l) n l (back l b) (openings b) (backsteps (dropped l b) t) (omega arith) ho (rw (up, take-length) u) in
+    let w = close-held (t .level - l) n l (back l b) (openings b) (backsteps (dropped l b) t) (omega arith) (rw (up, take-length) u) in
     rw (q, f .opens) (rewind-held n (back l b) (take l (openings b)) _ w)
-
-back-curr : (l : ℕ) (t : Trail) → (backtrackTo l t) .curr ≤ (backtrackTo l t) .len
-unfolding backtrackTo rewind
-back-curr l t = omega arith
 
 module _ (n m : ℕ) (C : Chooser n m) where
   -- s is a session that the book b fits, and its chooser is good for these switches
   pub record Good (b : Book) (on : ℕ → Bool) (s : Session n m C) : Type 0 where
     pub fine : Fine n m b
     pub holds : Holds n b (s .trail)
-    pub curr : s .trail .curr ≤ s .trail .len
     pub ok : C .ok (valuesOf n b) on (s .chooser)
+
+  -- it is what the calls of a log may leave
+  abbrev pub GoodAfter : List Line → Session n m C → Type 0
+  GoodAfter ls s = Good (book ls) (counts (C .switches) ls) s
 
   -- the chooser is offered the variables of the k newest entries
   offers : (k : ℕ) (b : Book) (on : ℕ → Bool) (c : C .State) → Fine n m b → C .ok (valuesOf n b) on c → C .ok (valuesOf n (drop k b)) on (offerAll n m C (map variable (take k b)) c)
@@ -98,7 +86,7 @@ module _ (n m : ℕ) (C : Chooser n m) where
   went l {b} {on} s g = cond-elim (Good (back l b) on) (ltb l (s .trail .level)) down still
     where
       present : s .trail .level ≡ presentLevel b
-      present = g .holds .level ∙ length-openings b
+      present = g .holds .opened .count ∙ length-openings b
 
       still : ltb l (s .trail .level) ≡ false → Good (back l b) on s
       still e =
@@ -112,7 +100,6 @@ module _ (n m : ℕ) (C : Chooser n m) where
           record {
             fine = rw (f .rest) at (fine-drop (dropped l b) (g .fine));
             holds = back-holds n m l b (s .trail) (g .fine) h (g .holds);
-            curr = back-curr l (s .trail);
             ok = rw (undone-is n l b (s .trail) h (g .holds) .1) (rw (f .rest) at (offers (dropped l b) b on (s .chooser) (g .fine) (g .ok)));
           }
 
@@ -133,6 +120,6 @@ module _ (n m : ℕ) (C : Chooser n m) where
   pub apart : (l : ℕ) (b : Book) (on : ℕ → Bool) (s : Session n m C) → Good b on s → l < s .trail .level
       → interleaved (howMany l (s .trail)) s ≡ record { trail = backsteps (howMany l (s .trail)) (s .trail); chooser = offerAll n m C (undone l (s .trail)) (s .chooser) }
   apart l b on s g h =
-      let hb : l < presentLevel b = omega (arith, g .holds .level, length-openings b) in
+      let hb : l < presentLevel b = omega (arith, g .holds .opened .count, length-openings b) in
       let (q, vs) = undone-is n l b (s .trail) hb (g .holds) in
       rw (q, vs) (in-turn (dropped l b) b (openings b) (s .trail) (s .chooser) (omega arith) (g .fine) (g .holds))

@@ -4,62 +4,53 @@ use mathlib.Core.Path.{_≡_, refl, sym, ap, _∙_}
 use mathlib.Core.Bool.{Bool, true, false, cond}
 use mathlib.Core.List.{List, [], _∷_, _++_}
 use native.Mathlib.Omega.{arith}
-use native.Mathlib.Nat.{sub-zero}
-use native.Mathlib.Decide.{ℕ-discrete}
-use lib.ListN.{length, getD, set, replicate, take, drop, length-append, length-set, length-replicate, List·getD-append}
-use lib.Seq.{take-at, take-append-seam, take-suc, length-take-le, set-at, getD-at, getD-set-same, getD-set-other, set-getD, set-set, append-snoc}
+use native.Mathlib.Numerals.{add-one}
+use lib.ListN.{length, getD, set, replicate, take, drop, length-append, length-take, length-set, length-replicate}
+use lib.Seq.{take-at, drop-at, take-add, take-suc, take-take, take-set-le, take-suc-set, length-take-le, getD-at, getD-take, set-getD, set-set}
 use lib.Dec.{ltb}
 use borrow.Author.Tests.{lt-ltb}
 use Rattle.lit.specs.Numbers.{NONE, unassigned}
-use Rattle.lit.specs.Lits.{index, polarity, new, isAssigned}
+use Rattle.lit.specs.Lits.{index, polarity, new}
 use Rattle.trail.specs.Trail.{Trail, freshTrail, enqAssignment, enqDecision, last, backstep, backsteps, closeLevels, rewind}
-use Rattle.book.specs.Book.{Entry, entry, Book, presentLevel, codes, openings, valuesOf, reasonsOf, levelsOf}
+use Rattle.book.specs.Book.{entry, Book, presentLevel, codes, openings, valuesOf, reasonsOf, levelsOf}
 use Rattle.book.specs.Claim.{assignedLevels, recordsOf, recordsIn}
 use Rattle.book.proofs.Books.{level-le, length-openings, length-codes, Fine, fine-add, Says, says, room}
 
--- ---- a list in use, and NONE behind it: 'A place of trail, opened levels .. that is not in use holds NONE'
+-- ---- of the list l of length n the first k places are in use, and hold xs
 
-unfoldable pub padded : ℕ → List ℕ → List ℕ
-padded n l = l ++ replicate (n - length l) NONE
+pub record Stack (n : ℕ) (xs l : List ℕ) (k : ℕ) : Type 0 where
+  pub long : length l ≡ n
+  pub count : k ≡ length xs
+  pub inUse : take k l ≡ xs
 
--- one more in use
-pad-snoc : (n : ℕ) (l : List ℕ) (x k : ℕ) → length l ≡ k → padded n (l ++ (x ∷ [])) ≡ l ++ x ∷ replicate (n - suc k) NONE
-unfolding padded
-pad-snoc n l x k e =
-    let q : n - length (l ++ (x ∷ [])) ≡ n - suc k = omega (arith, length-append l (x ∷ [])) in
-    rw (q, append-snoc)
+push : (n : ℕ) {xs l : List ℕ} {k : ℕ} (x : ℕ) → k < n → Stack n xs l k → Stack n (xs ++ (x ∷ [])) (set l k x) (k + 1)
+push n {xs} {l} {k} x h s = record {
+  long = simp length-set (s .long);
+  count = omega (arith, s .count, length-append xs (x ∷ []));
+  inUse = rw (add-one k, take-suc-set l k x (omega (arith, s .long)), s .inUse);
+}
 
-pad-next : (n : ℕ) (l : List ℕ) (k : ℕ) → length l ≡ k → k < n → padded n l ≡ l ++ NONE ∷ replicate (n - suc k) NONE
-unfolding padded
-pad-next n l k e h =
-    let q : n - length l ≡ suc (n - suc k) = omega arith in
-    rw q
+-- what is left when the place of the last one is cleared, and the last one itself
+pop : (n : ℕ) {xs l : List ℕ} {k : ℕ} (x : ℕ) → Stack n (xs ++ (x ∷ [])) l k → Stack n xs (set l (k - 1) NONE) (k - 1)
+pop n {xs} {l} {k} x s =
+    let q : k ≡ suc (length xs) = omega (arith, s .count, length-append xs (x ∷ [])) in
+    let q1 : k - 1 ≡ length xs = omega arith in
+    record {
+      long = simp length-set (s .long);
+      count = q1;
+      inUse = take-set-le (k - 1) l (k - 1) NONE (omega arith) ∙ sym (take-take (k - 1) k l (omega arith)) ∙ rw (s .inUse) (take-at xs (x ∷ []) (k - 1) (sym q1));
+    }
 
-pad-push : (n : ℕ) (l : List ℕ) (x k : ℕ) → length l ≡ k → k < n → set (padded n l) k x ≡ padded n (l ++ (x ∷ []))
-pad-push n l x k e h = rw (pad-next n l k e h, pad-snoc n l x k e) (set-at l NONE (replicate (n - suc k) NONE) x k e)
+pub at : (n : ℕ) {xs l : List ℕ} {k : ℕ} (i : ℕ) → i < k → Stack n xs l k → getD l i 0 ≡ getD xs i 0
+at n {xs} {l} {k} i h s = sym (getD-take k l i 0 h) ∙ ap (λ (x : List ℕ). getD x i 0) (s .inUse)
 
-pad-pop : (n : ℕ) (l : List ℕ) (x k : ℕ) → length l ≡ k → k < n → set (padded n (l ++ (x ∷ []))) k NONE ≡ padded n l
-pad-pop n l x k e h = rw (pad-snoc n l x k e, pad-next n l k e h) (set-at l x (replicate (n - suc k) NONE) NONE k e)
+pub part : (n : ℕ) {xs l : List ℕ} {k : ℕ} (p j : ℕ) → p + j ≡ k → Stack n xs l k → take j (drop p l) ≡ drop p xs
+part n {xs} {l} {k} p j e s =
+    let h : p ≤ length l = omega (arith, s .count, ap length (s .inUse), length-take k l) in
+    sym (drop-at (take p l) (take j (drop p l)) p (length-take-le p l h)) ∙ rw (← take-add p j l, e, s .inUse)
 
-pad-last : (n : ℕ) (l : List ℕ) (x k : ℕ) → length l ≡ k → getD (padded n (l ++ (x ∷ []))) k 0 ≡ x
-pad-last n l x k e = rw (pad-snoc n l x k e) (getD-at l x (replicate (n - suc k) NONE) 0 k e)
+-- ---- levels of assigned variables: a value and a level are stored together
 
-pub pad-at : (n : ℕ) (l : List ℕ) (i : ℕ) → i < length l → getD (padded n l) i 0 ≡ getD l i 0
-unfolding padded
-pad-at n l i h = List·getD-append l (replicate (n - length l) NONE) 0 i h
-
--- ---- the memory t holds the book b, and as opened levels the list ops: while a going back is under way these are an older book's
-
-pub record Held (n : ℕ) (b : Book) (ops : List ℕ) (t : Trail) : Type 0 where
-  pub values : t .values ≡ valuesOf n b
-  pub reasons : t .reasons ≡ reasonsOf n b
-  pub trail : t .trail ≡ padded n (codes b)
-  pub len : t .len ≡ length b
-  pub opened : t .opened ≡ padded n ops
-  pub level : t .level ≡ length ops
-  pub levels : assignedLevels (t .values) (t .levels) ≡ levelsOf n b
-
--- a value and a level are stored together
 levels-set : (vs ls : List ℕ) (v p l : ℕ) → assignedLevels (set vs v p) (set ls v l) ≡ set (assignedLevels vs ls) v (cond (ltb p unassigned) l NONE)
 unfolding assignedLevels
 levels-set [] ls v p l = refl
@@ -76,14 +67,23 @@ unfolding assignedLevels
 levels-fresh zero = refl
 levels-fresh (suc n) = ap {B = List ℕ} (λ zs. NONE ∷ zs) (levels-fresh n)
 
-pub fresh-held : (n : ℕ) → Held n [] [] (freshTrail n)
-unfolding freshTrail valuesOf reasonsOf levelsOf codes padded
-fresh-held n =
-    record { values = refl; reasons = refl; trail = rw (sub-zero n); len = refl; opened = rw (sub-zero n); level = refl; levels = levels-fresh n }
+-- ---- the memory t holds the book b, and as opened levels the list ops: while a going back is under way these are an older book's
 
--- the memory t is what the book b says
+pub record Held (n : ℕ) (b : Book) (ops : List ℕ) (t : Trail) : Type 0 where
+  pub values : t .values ≡ valuesOf n b
+  pub reasons : t .reasons ≡ reasonsOf n b
+  pub levels : assignedLevels (t .values) (t .levels) ≡ levelsOf n b
+  pub trail : Stack n (codes b) (t .trail) (t .len)
+  pub opened : Stack n ops (t .opened) (t .level)
+
 abbrev pub Holds : ℕ → Book → Trail → Type 0
 Holds n b t = Held n b (openings b) t
+
+pub fresh-holds : (n : ℕ) → Holds n [] (freshTrail n)
+unfolding freshTrail valuesOf reasonsOf levelsOf codes openings
+fresh-holds n =
+    let empty : Stack n [] (replicate n NONE) 0 = record { long = length-replicate n NONE; count = refl; inUse = refl } in
+    record { values = refl; reasons = refl; levels = levels-fresh n; trail = empty; opened = empty }
 
 pub enq-holds : (n m code reason : ℕ) (b : Book) (t : Trail) → Fine n m b → index code < n → getD (valuesOf n b) (index code) 0 ≡ unassigned
     → Holds n b t → Holds n (entry code reason false ∷ b) (enqAssignment code reason t)
@@ -91,11 +91,9 @@ unfolding enqAssignment valuesOf reasonsOf levelsOf codes openings presentLevel
 enq-holds n m code reason b t f h e g = record {
   values = rw (g .values);
   reasons = rw (g .reasons);
-  trail = rw (g .trail, g .len) (pad-push n (codes b) code (length b) (length-codes b) (room n m f (index code) e));
-  len = omega (arith, g .len);
+  levels = rw (levels-set (t .values) (t .levels) (index code) (polarity code) (t .level), lt-ltb (polarity code) unassigned (omega arith), g .levels, g .opened .count, length-openings b);
+  trail = push n code (omega (arith, g .trail .count, length-codes b, room n m f (index code) e)) (g .trail);
   opened = g .opened;
-  level = g .level;
-  levels = rw (levels-set (t .values) (t .levels) (index code) (polarity code) (t .level), lt-ltb (polarity code) unassigned (omega arith), g .levels, g .level, length-openings b);
 }
 
 -- storing what stands there
@@ -108,16 +106,15 @@ unfolding enqDecision valuesOf reasonsOf levelsOf codes openings presentLevel
 dec-holds n m v p b t f h hp e g =
     let q1 : new v p / 2 ≡ v = omega arith in
     let q2 : new v p % 2 ≡ p = omega arith in
-    let r = room n m f v e in
-    let hl : length (openings b) < n = omega (arith, length-openings b, level-le b) in
+    let lv : t .level ≡ presentLevel b = g .opened .count ∙ length-openings b in
+    let ln : t .len ≡ length b = g .trail .count ∙ length-codes b in
+    let r : length b < n = room n m f v e in
     record {
       values = rw (q1, q2, g .values);
       reasons = rw (q1, set-same (reasonsOf n b) v NONE (says n m f v h .no-reason e)) (g .reasons);
-      trail = rw (g .trail, g .len) (pad-push n (codes b) (new v p) (length b) (length-codes b) r);
-      len = omega (arith, g .len);
-      opened = rw (g .opened, g .level, g .len) (pad-push n (openings b) (length b) (length (openings b)) refl hl);
-      level = omega (arith, g .level, length-append (openings b) (length b ∷ []));
-      levels = rw (q1, levels-set (t .values) (t .levels) v p (t .level + 1), lt-ltb p unassigned hp, g .levels, g .level, length-openings b);
+      levels = rw (q1, levels-set (t .values) (t .levels) v p (t .level + 1), lt-ltb p unassigned hp, g .levels, lv);
+      trail = push n (new v p) (omega arith) (g .trail);
+      opened = rw ln (push n (length b) (omega (arith, level-le b)) (g .opened));
     }
 
 -- ---- going back
@@ -125,22 +122,20 @@ dec-holds n m v p b t f h hp e g =
 pub last-is : (n c r : ℕ) (o : Bool) (b : Book) (ops : List ℕ) (t : Trail) → Held n (entry c r o ∷ b) ops t → last t ≡ index c
 unfolding codes
 last-is n c r o b ops t g =
-    let q : t .len - 1 ≡ length b = omega (arith, g .len) in
-    rw (q, g .trail, pad-last n (codes b) c (length b) (length-codes b))
+    let q : length (codes b) ≡ t .len - 1 = omega (arith, g .trail .count, length-append (codes b) (c ∷ [])) in
+    rw (at n (t .len - 1) (omega (arith, g .trail .count, length-append (codes b) (c ∷ []))) (g .trail), getD-at (codes b) c [] 0 (t .len - 1) q)
 
 pub backstep-held : (n m c r : ℕ) (o : Bool) (b : Book) (ops : List ℕ) (t : Trail) → Fine n m (entry c r o ∷ b) → Held n (entry c r o ∷ b) ops t → Held n b ops (backstep t)
 unfolding backstep valuesOf reasonsOf levelsOf codes
 backstep-held n m c r o b ops t (fine-add h _ e f) g =
-    let q : t .len - 1 ≡ length b = omega (arith, g .len) in
     let v = last-is n c r o b ops t g in
+    let of-c = says n m f (index c) h in
     record {
       values = rw (v, g .values, set-set) (set-same (valuesOf n b) (index c) unassigned e);
-      reasons = rw (v, g .reasons, set-set) (set-same (reasonsOf n b) (index c) NONE (says n m f (index c) h .no-reason e));
-      trail = rw (q, g .trail) (pad-pop n (codes b) c (length b) (length-codes b) (room n m f (index c) e));
-      len = q;
+      reasons = rw (v, g .reasons, set-set) (set-same (reasonsOf n b) (index c) NONE (of-c .no-reason e));
+      levels = rw (v, levels-unset (t .values) (t .levels) (index c), g .levels, set-set) (set-same (levelsOf n b) (index c) NONE (of-c .no-level e));
+      trail = pop n c (g .trail);
       opened = g .opened;
-      level = g .level;
-      levels = rw (v, levels-unset (t .values) (t .levels) (index c), g .levels, set-set) (set-same (levelsOf n b) (index c) NONE (says n m f (index c) h .no-level e));
     }
 
 pub backsteps-held : (n m k : ℕ) (b : Book) (ops : List ℕ) (t : Trail) → k ≤ length b → Fine n m b → Held n b ops t → Held n (drop k b) ops (backsteps k t)
@@ -150,35 +145,21 @@ backsteps-held n m (suc k) [] ops t h f g = absurd (omega arith)
 backsteps-held n m (suc k) (entry c r o ∷ b) ops t h (fine-add hc hr e f) g =
     backsteps-held n m k b ops (backstep t) (omega arith) f (backstep-held n m c r o b ops t (fine-add hc hr e f) g)
 
-pub close-held : (k n j : ℕ) (b : Book) (ops : List ℕ) (t : Trail) → j + k ≤ length ops → length ops ≤ n → Held n b (take (j + k) ops) t → Held n b (take j ops) (closeLevels k t)
+pub close-held : (k n j : ℕ) (b : Book) (ops : List ℕ) (t : Trail) → j + k ≤ length ops → Held n b (take (j + k) ops) t → Held n b (take j ops) (closeLevels k t)
 unfolding closeLevels
-close-held zero n j b ops t h hn g =
+close-held zero n j b ops t h g =
     let q : j + 0 ≡ j = omega arith in
     rw q at g
-close-held (suc k) n j b ops t h hn g =
+close-held (suc k) n j b ops t h g =
     let q : j + suc k ≡ suc (j + k) = omega arith in
-    let h1 : j + k < length ops = omega arith in
-    let g1 : Held n b (take (suc (j + k)) ops) t = rw q at g in
-    let q2 : t .level - 1 ≡ j + k = omega (arith, g1 .level, length-take-le (suc (j + k)) ops h1) in
-    close-held k n j b ops _ (omega arith) hn (record {
-      values = g .values;
-      reasons = g .reasons;
-      trail = g .trail;
-      len = g .len;
-      opened = rw (q2, g1 .opened, take-suc ops (j + k) 0 h1) (pad-pop n (take (j + k) ops) (getD ops (j + k) 0) (j + k) (length-take-le (j + k) ops (omega arith)) (omega arith));
-      level = q2 ∙ sym (length-take-le (j + k) ops (omega arith));
-      levels = g .levels;
-    })
+    let s : Stack n (take (j + k) ops ++ (getD ops (j + k) 0 ∷ [])) (t .opened) (t .level) = rw (q, take-suc ops (j + k) 0 (omega arith)) at (g .opened) in
+    close-held k n j b ops _ (omega arith) (record { values = g .values; reasons = g .reasons; levels = g .levels; trail = g .trail; opened = pop n (getD ops (j + k) 0) s })
 
 pub rewind-held : (n : ℕ) (b : Book) (ops : List ℕ) (t : Trail) → Held n b ops t → Held n b ops (rewind t)
 unfolding rewind
-rewind-held n b ops t g =
-    record { values = g .values; reasons = g .reasons; trail = g .trail; len = g .len; opened = g .opened; level = g .level; levels = g .levels }
+rewind-held n b ops t g = record { values = g .values; reasons = g .reasons; levels = g .levels; trail = g .trail; opened = g .opened }
 
 -- the records of the claim are the book's
 pub told : (n : ℕ) {b : Book} {t : Trail} → Holds n b t → recordsOf t ≡ recordsIn n b
-unfolding recordsOf recordsIn padded
-told n {b} {t} g =
-    let trail : take (t .len) (t .trail) ≡ codes b = rw (g .len, g .trail) (take-at (codes b) (replicate (n - length (codes b)) NONE) (length b) (length-codes b)) in
-    let opened : take (t .level) (t .opened) ≡ openings b = rw (g .level, g .opened) (take-append-seam (openings b) (replicate (n - length (openings b)) NONE)) in
-    cc (length-openings b)
+unfolding recordsOf recordsIn
+told n {b} {t} g = cc (g .trail .inUse, g .trail .count, g .opened .inUse, g .opened .count, length-codes b, length-openings b)

@@ -1,43 +1,43 @@
 -- Term 3, proved of every chooser that keeps its laws: by one induction over the calls, (c) by one over the past.
-use Prim.Native.Nat.{ℕ, _+_, _/_, _<_}
+use Prim.Native.Nat.{ℕ, _<_}
 use mathlib.Core.Path.{_≡_, refl, sym, ap, _∙_}
-use mathlib.Core.Logic.{_↔_}
+use mathlib.Core.Logic.{_↔_, _≢_}
 use mathlib.Core.Bool.{Bool, true, false, not, false≢true}
-use mathlib.Core.Option.{Option, none, some, Option·some-ne-none}
-use mathlib.Core.List.{List, [], _∷_, map}
+use mathlib.Core.Option.{none, Option·some-ne-none}
+use mathlib.Core.List.{List, [], _∷_}
 use native.Mathlib.Omega.{arith}
 use lib.Dec.{ltb, eqb}
 use Rattle.lit.specs.Numbers.{NONE, noVariable, badPolarity, assigned}
 use Rattle.lit.specs.Lits.{index, isAssigned}
-use Rattle.trail.specs.Trail.{Trail, freshTrail, enqAssignment}
-use Rattle.book.specs.Calls.{Call, decide, learnUnit, goBack, Line, accepted}
+use Rattle.trail.specs.Trail.{Trail, freshTrail, enqAssignment, enqDecision, backtrackTo}
+use Rattle.book.specs.Calls.{Call, decide, learnUnit, Line}
 use Rattle.book.specs.Book.{Book, presentLevel, back, book, openings, valuesOf, on, counts}
-use Rattle.book.specs.Chooser.{Next, chose, nothing, stuck, Settled, Right, Chooser}
+use Rattle.book.specs.Chooser.{goodReason, Next, chose, nothing, stuck, Right, Chooser}
 use Rattle.book.specs.Session.{Session, Result, fresh, accept, refuse, need, wentBack, enqueued, decided, call}
-use Rattle.book.specs.Claim.{Event, Past, log, Records, recordsOf, recordsIn, NoneRight, Raises, JustBefore, here, earlier, AsThen, BackRight, UnitRight, Each, Run, begin, step, run, Claim, Term3}
+use Rattle.book.specs.Claim.{Event, Past, log, Records, recordsOf, recordsIn, SettledBy, Raises, JustBefore, here, earlier, AsThen, Each, Run, begin, step, run, Claim, Term3}
 use Rattle.book.proofs.Books.{length-openings, Seen, raised, over, seen, fine-nil}
-use Rattle.book.proofs.Memory.{fresh-held, told}
-use Rattle.book.proofs.Going.{Good, went}
-use Rattle.book.proofs.Steps.{Kept, asked, kept}
+use Rattle.book.proofs.Memory.{fresh-holds, told}
+use Rattle.book.proofs.Going.{Good, GoodAfter, went}
+use Rattle.book.proofs.Steps.{Moves, stays, backtracks, decides, assigns, Kept, asked, kept}
 
--- the trails of an event are what the book said before it and after it
-abbrev pub Moment : ℕ → Event → Past → Type 0
+-- the records of an event are those in the book before it and after it
+abbrev Moment : ℕ → Event → Past → Type 0
 Moment n ev past = (recordsOf (ev .before) ≡ recordsIn n (book (log past))) × (recordsOf (ev .after) ≡ recordsIn n (book (log (ev ∷ past))))
 
 level-told : (n : ℕ) (b : Book) (t : Trail) → recordsOf t ≡ recordsIn n b → t .level ≡ presentLevel b
 unfolding recordsOf recordsIn
 level-told n b t e = ap (λ (x : Records). x .level) e
 
--- what the book gone back to l says stood in the trail just before the latest decision that raised the level from l
-find : (n l : ℕ) (past : Past) → Each (Moment n) past → l < presentLevel (book (log past))
-    → (t : Trail) × JustBefore l t past × (recordsOf t ≡ recordsIn n (back l (book (log past))))
-unfolding Each
+-- what is in the book gone back to l stood in the trail just before the latest decision that raised the level from l
+Stood : ℕ → ℕ → Past → Type 0
+Stood n l past = (t : Trail) × JustBefore l t past × (recordsOf t ≡ recordsIn n (back l (book (log past))))
+
+find : (n l : ℕ) (past : Past) → Each (Moment n) past → l < presentLevel (book (log past)) → Stood n l past
+unfolding Each Stood
 find n l [] ms h = absurd (unfold presentLevel book in (omega arith))
 find n l (ev ∷ past) (m, ms) h = go (seen l (ev .line) (log past) h) (find n l past ms)
   where
-    go : Seen l (ev .line .call) (book (log past)) (book (log (ev ∷ past)))
-        → (l < presentLevel (book (log past)) → (t : Trail) × JustBefore l t past × (recordsOf t ≡ recordsIn n (back l (book (log past)))))
-        → (t : Trail) × JustBefore l t (ev ∷ past) × (recordsOf t ≡ recordsIn n (back l (book (log (ev ∷ past)))))
+    go : Seen l (ev .line .call) (book (log past)) (book (log (ev ∷ past))) → (l < presentLevel (book (log past)) → Stood n l past) → Stood n l (ev ∷ past)
     go (raised p e h1 h2 q) ih = (
       ev .before,
       here (record { polarity = p; decision = e; from = level-told n _ _ (m .0) ∙ h1; to = level-told n _ _ (m .1) ∙ h2 }) refl,
@@ -53,47 +53,55 @@ counts-nil true = refl
 counts-nil false = refl
 
 module _ (n m : ℕ) (C : Chooser n m) where
-  -- what every run keeps
+  -- (b)
+  none-right : (s : Session n m C) (ls : List Line) → GoodAfter n m C ls s → (p : ℕ) → eqb ((call n m C s (decide p)) .status) 0 ≡ true
+      → (call n m C s (decide p)) .reply ≡ none ↔ SettledBy n (C .switches) ls
+  unfolding call need refuse accept decided
+  none-right s ls g p = go (ltb p 2) (C .getNext (s .trail .values) (s .chooser)) (asked n m C s ls g)
+    where
+      go : (t : Bool) (x : Next (C .State)) → Right n (valuesOf n (book ls)) (counts (C .switches) ls) (C .ok) x
+          → eqb ((need n m C t badPolarity s (decided n m C p s x)) .status) 0 ≡ true
+          → (need n m C t badPolarity s (decided n m C p s x)) .reply ≡ none ↔ SettledBy n (C .switches) ls
+      go false x q a = absurd (false≢true a)
+      go true (chose v d) (hv, ho, hu, q) a = ((λ e. absurd (Option·some-ne-none v e)), (λ f. absurd (false≢true (sym hu ∙ f v hv ho))))
+      go true (nothing d) (q, o) a = ((λ e. q), (λ f. refl))
+      go true stuck q a = absurd (false≢true a)
+
+  -- (c)
+  as-then : (s : Session n m C) (past : Past) → GoodAfter n m C (log past) s → Each (Moment n) past → (l : ℕ) → l < s .trail .level
+      → AsThen l ((wentBack n m C l s) .trail) past
+  unfolding Stood
+  as-then s past g ms l h =
+      let (t, j, k) = find n l past ms (omega (arith, g .holds .opened .count, length-openings (book (log past)))) in
+      (t, j, told n (went n m C l s g .holds) ∙ sym k)
+
+  unit-after : (s : Session n m C) (code : ℕ) → eqb ((call n m C s (learnUnit code)) .status) 0 ≡ true
+      → (call n m C s (learnUnit code)) .session .trail ≡ enqAssignment code NONE ((wentBack n m C 0 s) .trail)
+  unfolding call need refuse accept enqueued
+  unit-after s code = go (ltb (index code) n) (not (isAssigned ((wentBack n m C 0 s) .trail .values) (index code)))
+    where
+      x : Result n m C
+      x = accept n m C none (enqueued n m C code NONE (wentBack n m C 0 s))
+
+      go : (t u : Bool) → eqb ((need n m C t noVariable s (need n m C u assigned s x)) .status) 0 ≡ true
+          → (need n m C t noVariable s (need n m C u assigned s x)) .session .trail ≡ x .session .trail
+      go false u a = absurd (false≢true a)
+      go true false a = absurd (false≢true a)
+      go true true a = refl
+
+  -- what every run keeps: its session is good, and the claim holds of it
   pub record Inv (r : Run n m C) : Type 0 where
-    pub good : Good n m C (book (log (r .past))) (counts (C .switches) (log (r .past))) (r .now)
+    pub good : GoodAfter n m C (log (r .past)) (r .now)
     pub moments : Each (Moment n) (r .past)
     pub claim : Claim n m C r
 
-  module _ (s : Session n m C) (past : Past) (g : Good n m C (book (log past)) (counts (C .switches) (log past)) s) (ms : Each (Moment n) past) where
-    -- (b)
-    none-right : (p : ℕ) → eqb ((call n m C s (decide p)) .status) 0 ≡ true
-        → (call n m C s (decide p)) .reply ≡ none ↔ Settled n (valuesOf n (book (log past))) (counts (C .switches) (log past))
-    unfolding call need refuse accept decided
-    none-right p = go (ltb p 2) (C .getNext (s .trail .values) (s .chooser)) (asked n m C s (log past) g)
-      where
-        go : (t : Bool) (x : Next (C .State)) → Right n (valuesOf n (book (log past))) (counts (C .switches) (log past)) (C .ok) x
-            → eqb ((need n m C t badPolarity s (decided n m C p s x)) .status) 0 ≡ true
-            → (need n m C t badPolarity s (decided n m C p s x)) .reply ≡ none ↔ Settled n (valuesOf n (book (log past))) (counts (C .switches) (log past))
-        go false x q a = absurd (false≢true a)
-        go true (chose v d) (hv, ho, hu, q) a = ((λ e. absurd (Option·some-ne-none v e)), (λ f. absurd (false≢true (sym hu ∙ f v hv ho))))
-        go true (nothing d) (q, o) a = ((λ e. q), (λ f. refl))
-        go true stuck q a = absurd (false≢true a)
-
-    -- (c)
-    as-then : (l : ℕ) → l < s .trail .level → AsThen l ((wentBack n m C l s) .trail) past
-    as-then l h =
-        let hl : l < presentLevel (book (log past)) = omega (arith, g .holds .level, length-openings (book (log past))) in
-        let (t, j, k) = find n l past ms hl in
-        (t, j, told n (went n m C l s g .holds) ∙ sym k)
-
-    unit-after : (code : ℕ) → eqb ((call n m C s (learnUnit code)) .status) 0 ≡ true
-        → (call n m C s (learnUnit code)) .session .trail ≡ enqAssignment code NONE ((wentBack n m C 0 s) .trail)
-    unfolding call need refuse accept enqueued
-    unit-after code = go (ltb (index code) n) (not (isAssigned ((wentBack n m C 0 s) .trail .values) (index code)))
-      where
-        done : Result n m C
-        done = accept n m C none (enqueued n m C code NONE (wentBack n m C 0 s))
-
-        go : (t u : Bool) → eqb ((need n m C t noVariable s (need n m C u assigned s done)) .status) 0 ≡ true
-            → (need n m C t noVariable s (need n m C u assigned s done)) .session .trail ≡ enqAssignment code NONE ((wentBack n m C 0 s) .trail)
-        go false u a = absurd (false≢true a)
-        go true false a = absurd (false≢true a)
-        go true true a = refl
+  pub began : Inv (begin n m C)
+  unfolding begin fresh Each book openings valuesOf
+  began = record {
+    good = record { fine = fine-nil; holds = fresh-holds n; ok = rw (counts-nil (C .switches)) (C .start-ok) };
+    moments = tt;
+    claim = record { told = told n (fresh-holds n); noneRight = tt; backRight = tt; unitRight = tt };
+  }
 
   pub stepped : (r : Run n m C) (c : Call) → Inv r → Inv (step n m C r c)
   unfolding step Each
@@ -105,25 +113,16 @@ module _ (n m : ℕ) (C : Chooser n m) where
         moments = ((told n (i .good .holds), told n (k .good .holds)), i .moments);
         claim = record {
           told = told n (k .good .holds);
-          noneRight = ((λ p e a. rw e (none-right s (r .past) (i .good) (i .moments) p (rw e at a))), i .claim .noneRight);
+          noneRight = ((λ p e a. rw e (none-right s (log (r .past)) (i .good) p (rw e at a))), i .claim .noneRight);
           backRight = ((λ l e a h. rw e (unfold call accept in (as-then s (r .past) (i .good) (i .moments) l h))), i .claim .backRight);
           unitRight = (
-            (λ code e a h.
-                ((wentBack n m C 0 s) .trail, as-then s (r .past) (i .good) (i .moments) 0 h, rw e (unit-after s (r .past) (i .good) (i .moments) code (rw e at a)))),
+            (λ code e a h. ((wentBack n m C 0 s) .trail, as-then s (r .past) (i .good) (i .moments) 0 h, rw e (unit-after s code (rw e at a)))),
             i .claim .unitRight,
           );
         };
       }
 
-  pub began : Inv (begin n m C)
-  unfolding begin fresh Each book openings valuesOf freshTrail
-  began = record {
-    good = record { fine = fine-nil; holds = fresh-held n; curr = omega arith; ok = rw (counts-nil (C .switches)) (C .start-ok) };
-    moments = tt;
-    claim = record { told = told n (fresh-held n); noneRight = tt; backRight = tt; unitRight = tt };
-  }
-
-  ran : (r : Run n m C) (cs : List Call) → Inv r → Inv (run n m C r cs)
+  ran : (r : Run n m C) (calls : List Call) → Inv r → Inv (run n m C r calls)
   unfolding run
   ran r [] i = i
   ran r (c ∷ cs) i = ran (step n m C r c) cs (stepped r c i)
@@ -134,3 +133,30 @@ module _ (n m : ℕ) (C : Chooser n m) where
 
   pub term3 : Term3 n m C
   term3 calls = every calls .claim
+
+  -- a refused call leaves the session as it was
+  pub refused-still : (r : Run n m C) (c : Call) → Inv r → (call n m C (r .now) c) .status ≢ 0 → (call n m C (r .now) c) .session ≡ r .now
+  refused-still r c i = kept n m C (r .now) (log (r .past)) (i .good) c .still
+
+  -- what holds of a fresh trail and is kept by the trail's steps holds of the trail of every run
+  pub record Lasting (P : Trail → Type 0) : Type 0 where
+    pub at-first : P (freshTrail n)
+    pub back-to : (l : ℕ) (t : Trail) → l < t .level → P t → P (backtrackTo l t)
+    pub decision : (v p : ℕ) (t : Trail) → v < n → p < 2 → isAssigned (t .values) v ≡ false → P t → P (enqDecision v p t)
+    pub assignment : (code reason : ℕ) (t : Trail) → index code < n → goodReason m reason ≡ true → isAssigned (t .values) (index code) ≡ false → P t → P (enqAssignment code reason t)
+
+  module _ (P : Trail → Type 0) (k : Lasting P) where
+    lasts : {t u : Trail} → Moves n m t u → P t → P u
+    lasts stays p = p
+    lasts {t} (backtracks l h) p = k .back-to l t h p
+    lasts {t} (decides v q hv hq a) p = k .decision v q t hv hq a p
+    lasts (assigns code reason {u} h hr a mv) p = k .assignment code reason u h hr a (lasts mv p)
+
+    lasting : (r : Run n m C) (calls : List Call) → Inv r → P (r .now .trail) → P ((run n m C r calls) .now .trail)
+    unfolding run step
+    lasting r [] i p = p
+    lasting r (c ∷ cs) i p = lasting (step n m C r c) cs (stepped r c i) (lasts (kept n m C (r .now) (log (r .past)) (i .good) c .moves) p)
+
+    pub throughout : (calls : List Call) → P ((run n m C (begin n m C) calls) .now .trail)
+    unfolding begin fresh
+    throughout calls = lasting (begin n m C) calls began (k .at-first)

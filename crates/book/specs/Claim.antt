@@ -66,11 +66,14 @@ recordsIn n b = record {
   levels = levelsOf n b;
 }
 
--- (b) 'Each accepted decide in it answers "none" exactly when, by the book as it then stood, no switched-on variable is unassigned'
+-- 'by the book as it then stood, no switched-on variable is unassigned'
+abbrev pub SettledBy : ℕ → Bool → List Line → Type 0
+SettledBy n switches ls = Settled n (valuesOf n (book ls)) (counts switches ls)
+
+-- (b) 'Each accepted decide in it answers "none" exactly when' that is so
 abbrev pub NoneRight : ℕ → Bool → Event → Past → Type 0
 NoneRight n switches ev past =
-    (p : ℕ) → ev .line .call ≡ decide p → accepted (ev .line) ≡ true
-    → ev .line .reply ≡ none ↔ Settled n (valuesOf n (book (log past))) (counts switches (log past))
+    (p : ℕ) → ev .line .call ≡ decide p → accepted (ev .line) ≡ true → ev .line .reply ≡ none ↔ SettledBy n switches (log past)
 
 -- a 'decision that raised the level from L to L+1'
 pub record Raises (l : ℕ) (ev : Event) : Type 0 where
