@@ -1,23 +1,22 @@
 -- Going back does what the book says: the trail by the entries that are dropped, the chooser by their variables, last first.
-use Prim.Native.Nat.{ℕ, zero, suc, _+_, _-_, _/_, _%_, _≤_, _<_}
-use mathlib.Core.Path.{_≡_, refl, sym, ap, _∙_}
-use mathlib.Core.Bool.{Bool, true, false, cond}
-use mathlib.Core.List.{List, [], _∷_, _++_, map, reverse, reverse-append, map-append}
+use Prim.Native.Nat.{ℕ, zero, suc, _+_, _-_, _≤_, _<_}
+use mathlib.Core.Path.{_≡_, refl, ap, _∙_}
+use mathlib.Core.Bool.{Bool, true, false}
+use mathlib.Core.List.{List, [], _∷_, map, reverse, reverse-append, map-append}
 use native.Mathlib.Omega.{arith}
-use native.Mathlib.Nat.{sub-zero}
-use lib.ListN.{length, getD, set, replicate, take, drop, length-drop}
-use lib.Seq.{take-length, take-at, drop-length, drop-append-le, set-set}
+use lib.ListN.{length, getD, take, drop}
+use lib.Seq.{take-length, drop-length, drop-append-le, set-set}
 use lib.Dec.{ltb}
 use borrow.Author.Tests.{ltb-true, ltb-false}
 use Rattle.laws.specs.Tests.{cond-elim}
-use Rattle.lit.specs.Numbers.{NONE, unassigned}
-use Rattle.lit.specs.Lits.{index, polarity}
-use Rattle.trail.specs.Trail.{Trail, last, backstep, backsteps, closeLevels, rewind, howMany, backtrackTo, undone}
+use Rattle.lit.specs.Numbers.{unassigned}
+use Rattle.lit.specs.Lits.{index}
+use Rattle.trail.specs.Trail.{Trail, last, backstep, backsteps, howMany, backtrackTo, undone}
 use Rattle.book.specs.Calls.{Line}
 use Rattle.book.specs.Book.{Entry, entry, Book, presentLevel, back, book, codes, openings, valuesOf, counts}
 use Rattle.book.specs.Chooser.{Chooser}
 use Rattle.book.specs.Session.{Session, offerAll, wentBack}
-use Rattle.book.proofs.Books.{level-le, length-openings, length-codes, back-same, Back, back-facts, Fine, fine-add, fine-drop, fine-length}
+use Rattle.book.proofs.Books.{length-openings, length-codes, back-same, Back, back-facts, Fine, fine-add, fine-drop}
 use Rattle.book.proofs.Memory.{at, part, Holds, Held, set-same, last-is, backstep-held, backsteps-held, close-held, rewind-held}
 
 abbrev pub variable : Entry → ℕ

@@ -4,5 +4,6 @@ pub mod Memory
 pub mod Going
 pub mod Steps
 pub mod Term3
+pub mod Runs
 pub mod Letter
 pub mod Models

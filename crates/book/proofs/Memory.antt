@@ -1,5 +1,5 @@
 -- Each step of the trail's memory does what the book says: equations on whole lists, each by one law of `set`.
-use Prim.Native.Nat.{ℕ, zero, suc, _+_, _-_, _*_, _/_, _%_, _≤_, _<_}
+use Prim.Native.Nat.{ℕ, zero, suc, _+_, _-_, _/_, _%_, _≤_, _<_}
 use mathlib.Core.Path.{_≡_, refl, sym, ap, _∙_}
 use mathlib.Core.Bool.{Bool, true, false, cond}
 use mathlib.Core.List.{List, [], _∷_, _++_}
@@ -14,7 +14,7 @@ use Rattle.lit.specs.Lits.{index, polarity, new}
 use Rattle.trail.specs.Trail.{Trail, freshTrail, enqAssignment, enqDecision, last, backstep, backsteps, closeLevels, rewind}
 use Rattle.book.specs.Book.{entry, Book, presentLevel, codes, openings, valuesOf, reasonsOf, levelsOf}
 use Rattle.book.specs.Claim.{assignedLevels, recordsOf, recordsIn}
-use Rattle.book.proofs.Books.{level-le, length-openings, length-codes, Fine, fine-add, Says, says, room}
+use Rattle.book.proofs.Books.{level-le, length-openings, length-codes, Fine, fine-add, says, room}
 
 -- ---- of the list l of length n the first k places are in use, and hold xs
 

@@ -1,20 +1,22 @@
--- Two choosers that keep the laws, so that the laws ask for nothing that the two modes cannot give: one with switches that looks at
--- all variables, and one without that searches from where it left off and can get stuck.
-use Prim.Native.Nat.{ℕ, zero, suc, _+_, _≤_, _<_}
+-- A chooser that keeps the laws, with switches or without: it looks for its variable from where it left off, and can get stuck.
+-- So the laws ask for nothing that a mode cannot give.
+use Prim.Native.Nat.{ℕ, zero, suc, _≤_, _<_}
 use mathlib.Core.Path.{_≡_, refl, sym, ap, _∙_}
 use mathlib.Core.Bool.{Bool, true, false, cond, not, _&&_, false≢true}
 use mathlib.Core.Option.{Option, none, some}
-use mathlib.Core.List.{List, [], _∷_, map}
+use mathlib.Core.List.{List, [], _∷_}
 use native.Mathlib.Omega.{arith}
 use native.Mathlib.Decide.{ℕ-discrete}
-use lib.ListN.{getD, set, replicate}
-use lib.Dec.{eqb, ltb}
+use lib.Dec.{eqb}
 use borrow.Author.Tests.{not-true, not-false}
-use Rattle.laws.specs.Tests.{and-left, and-right, and-both, cond-elim}
-use Rattle.lit.specs.Numbers.{unassigned}
+use Rattle.laws.specs.Tests.{and-left, and-right, cond-elim}
 use Rattle.lit.specs.Lits.{isAssigned}
+use Rattle.trail.specs.Trail.{freshTrail, enqDecision, backtrackTo, backsteps, backstep, closeLevels, rewind, undone}
+use Rattle.book.specs.Calls.{Call, decide, goBack, Line}
 use Rattle.book.specs.Book.{without}
-use Rattle.book.specs.Chooser.{Next, chose, nothing, stuck, Settled, Right, Chooser}
+use Rattle.book.specs.Session.{fresh, call, decided, wentBack, offerAll}
+use Rattle.book.specs.Claim.{log, run, step, begin}
+use Rattle.book.specs.Chooser.{Next, chose, nothing, stuck, NextRight, Chooser}
 
 -- the greatest number below k that passes the test
 scan : (ℕ → Bool) → ℕ → Option ℕ
@@ -38,70 +40,62 @@ scanned test (suc k) = cond-elim (Found test (suc k)) (test k) (λ e. (omega ari
         go v h (yes z) = rw z e
         go v h (no z) = f v (omega arith)
 
-abbrev open? : List ℕ → ℕ → Bool
-open? values v = not (isAssigned values v)
+-- v counts, and is unassigned
+abbrev free : (ℕ → Bool) → List ℕ → ℕ → Bool
+free on values v = on v && not (isAssigned values v)
 
--- with switches
-chosenBy : (ℕ → Bool) → Option ℕ → Next (ℕ → Bool)
-chosenBy on none = nothing on
-chosenBy on (some v) = chose v on
+-- the search, below which the next variable is looked for, and the switches
+abbrev State : Type 0
+State = ℕ × (ℕ → Bool)
 
-pub scanner : (n m : ℕ) → Chooser n m
-unfolding chosenBy
-scanner n m = record {
-  State = ℕ → Bool;
-  ok = λ values on c. (v : ℕ) → v < n → c v ≡ on v;
-  switches = true;
-  start = λ v. true;
+-- by what is found below the search, and among all variables
+searched : State → Option ℕ → Option ℕ → Next State
+searched (k, on) (some v) y = chose v (v, on)
+searched c none none = nothing c
+searched c none (some w) = stuck
+
+abbrev Ok : ℕ → List ℕ → (ℕ → Bool) → State → Type 0
+Ok n values on (k, f) = (k ≤ n) × ((v : ℕ) → v < n → f v ≡ on v)
+
+right : (n : ℕ) (c : State) (values : List ℕ) (on : ℕ → Bool) → Ok n values on c → (x y : Option ℕ) → Found (free (c .1) values) (c .0) x → Found (free (c .1) values) n y
+    → NextRight n values on (Ok n) (searched c x y)
+unfolding searched
+right n (k, f) values on (h, q) (some v) y (hv, e) g =
+    let hn : v < n = omega arith in
+    (hn, sym (q v hn) ∙ and-left (f v) _ e, not-true (isAssigned values v) (and-right (f v) _ e), (λ p hp. (omega arith, q)))
+right n (k, f) values on (h, q) none none e g = ((λ v hv o. not-false (isAssigned values v) (rw (q v hv ∙ o) at (g v hv))), (h, q))
+right n (k, f) values on (h, q) none (some w) e (hw, g) =
+    λ settled. false≢true (sym (not-true (isAssigned values w) (and-right (f w) _ g)) ∙ settled w hw (sym (q w hw) ∙ and-left (f w) _ g))
+
+off-right : (n v : ℕ) (switches : Bool) (f on : ℕ → Bool) → ((w : ℕ) → w < n → f w ≡ on w) → (w : ℕ) → w < n → (cond switches (without v f) f) w ≡ (cond switches (without v on) on) w
+off-right n v true f on q w h = ap (λ (x : Bool). cond (eqb w v) false x) (q w h)
+off-right n v false f on q w h = q w h
+
+pub looker : Bool → (n m : ℕ) → Chooser n m
+looker switches n m = record {
+  State = State;
+  ok = Ok n;
+  switches = switches;
+  start = (n, (λ v. true));
   tune = λ t c. some c;
   insert = λ v c. c;
   offer = λ v c. c;
-  turnOff = λ v c. without v c;
-  getNext = λ values c. chosenBy c (scan (λ v. c v && open? values v) n);
-  start-ok = λ v h. refl;
+  turnOff = λ v c. (c .0, cond switches (without v (c .1)) (c .1));
+  getNext = λ values c. searched c (scan (free (c .1) values) (c .0)) (scan (free (c .1) values) n);
+  start-ok = (omega arith, (λ v h. refl));
   tune-ok = λ t c h q. q;
   insert-ok = λ v c h q. q;
   offer-ok = λ v c h q. q;
-  turnOff-ok = λ v c h q w hw. ap (λ (x : Bool). cond (eqb w v) false x) (q w hw);
+  turnOff-ok = λ v c {values} {on} h q. (q .0, off-right n v switches (c .1) on (q .1));
   assign-ok = λ v p c h hp q. q;
-  getNext-ok = λ c {values} {on} q. right c values on q (scan (λ v. c v && open? values v) n) (scanned (λ v. c v && open? values v) n);
+  getNext-ok = λ c {values} {on} q. right n c values on q _ _ (scanned (free (c .1) values) (c .0)) (scanned (free (c .1) values) n);
 }
-  where
-    right : (c : ℕ → Bool) (values : List ℕ) (on : ℕ → Bool) → ((v : ℕ) → v < n → c v ≡ on v) → (x : Option ℕ) → Found (λ v. c v && open? values v) n x
-        → Right n values on (λ values on c. (v : ℕ) → v < n → c v ≡ on v) (chosenBy c x)
-    right c values on q none f = ((λ v h o. not-false (isAssigned values v) (rw (q v h ∙ o) at (f v h))), q)
-    right c values on q (some v) (h, f) =
-        (h, sym (q v h) ∙ and-left (c v) (open? values v) f, not-true (isAssigned values v) (and-right (c v) (open? values v) f), (λ p hp. q))
 
--- without switches: the state is the search, below which the next variable is looked for
-searched : ℕ → Option ℕ → Option ℕ → Next ℕ
-searched k (some v) all = chose v v
-searched k none none = nothing k
-searched k none (some w) = stuck
+abbrev line : Call → ℕ → Option ℕ → Line
+line c k r = record { call = c; status = k; reply = r }
 
-pub searcher : (n m : ℕ) → Chooser n m
-unfolding searched
-searcher n m = record {
-  State = ℕ;
-  ok = λ values on k. (k ≤ n) × ((v : ℕ) → on v ≡ true);
-  switches = false;
-  start = n;
-  tune = λ t k. some k;
-  insert = λ v k. k;
-  offer = λ v k. k;
-  turnOff = λ v k. k;
-  getNext = λ values k. searched k (scan (open? values) k) (scan (open? values) n);
-  start-ok = (omega arith, (λ v. refl));
-  tune-ok = λ t k h q. q;
-  insert-ok = λ v k h q. q;
-  offer-ok = λ v k h q. q;
-  turnOff-ok = λ v k h q. q;
-  assign-ok = λ v p k h hp q. q;
-  getNext-ok = λ k {values} {on} q. right k values on q (scan (open? values) k) (scanned (open? values) k) (scan (open? values) n) (scanned (open? values) n);
-}
-  where
-    right : (k : ℕ) (values : List ℕ) (on : ℕ → Bool) → (k ≤ n) × ((v : ℕ) → on v ≡ true) → (x : Option ℕ) → Found (open? values) k x → (y : Option ℕ) → Found (open? values) n y
-        → Right n values on (λ values on k. (k ≤ n) × ((v : ℕ) → on v ≡ true)) (searched k x y)
-    right k values on (hk, q) (some v) (h, f) y g = (omega arith, q v, not-true (isAssigned values v) f, (λ p hp. (omega arith, q)))
-    right k values on q none f none g = ((λ v h o. not-false (isAssigned values v) (g v h)), q)
-    right k values on (hk, q) none f (some w) (h, g) = λ settled. false≢true (sym (not-true (isAssigned values w) g) ∙ settled w h (q w))
+-- case D of document 01, but for the order of the list: two decisions, both undone, and then refusal 14
+case-d : log ((run 2 0 (looker false 2 0) (begin 2 0 (looker false 2 0)) (decide 1 ∷ decide 0 ∷ goBack 0 ∷ decide 1 ∷ [])) .past)
+    ≡ line (decide 1) 14 none ∷ line (goBack 0) 0 (some 2) ∷ line (decide 0) 0 (some 0) ∷ line (decide 1) 0 (some 1) ∷ []
+unfolding run step begin fresh call decided wentBack offerAll looker searched scan freshTrail enqDecision backtrackTo backsteps backstep closeLevels rewind undone
+case-d = refl

@@ -1,7 +1,6 @@
--- Each call leaves a session that the book fits, by the steps of the trail, and a refused one leaves the session as it was. By cases on the call.
+-- Each call leaves a session that the book fits and changes the trail by its steps alone. By cases on the call.
 use Prim.Native.Nat.{ℕ, _/_, _%_, _<_}
 use mathlib.Core.Path.{_≡_, refl, sym, subst}
-use mathlib.Core.Logic.{_≢_}
 use mathlib.Core.Bool.{Bool, true, false, cond, not}
 use mathlib.Core.Option.{Option, none, some}
 use mathlib.Core.List.{List, _∷_}
@@ -10,13 +9,13 @@ use lib.ListN.{getD}
 use lib.Dec.{ltb, eqb}
 use borrow.Author.Tests.{ltb-true, not-true}
 use Rattle.laws.specs.Tests.{cond-elim}
-use Rattle.lit.specs.Numbers.{NONE, unassigned, noVariable, badPolarity, badReason, assigned, badDecay, largeStep, pastOpen}
+use Rattle.lit.specs.Numbers.{NONE, noVariable, badPolarity, badReason, assigned, badDecay, largeStep, pastOpen}
 use Rattle.lit.specs.Lits.{index, polarity, new, isAssigned}
 use Rattle.trail.specs.Trail.{Trail, enqAssignment, enqDecision, backtrackTo}
 use Rattle.book.specs.Calls.{Call, bump, decay, setDecay, insert, switchOff, decide, enqueue, learnUnit, goBack, bumpReason, group, Line, accepted}
 use Rattle.book.specs.Book.{entry, Book, written, book, valuesOf, without, switched, on, counts}
-use Rattle.book.specs.Chooser.{Tune, bumpVariable, decayVarInc, setVarDecay, bumpReasonLiterals, bumpVecOfVars, below, goodReason, goodDecay, fits, Next, chose, nothing, stuck, Right, IfSome, Chooser}
-use Rattle.book.specs.Session.{Session, Result, accept, refuse, need, wentBack, enqueued, withChooser, tuned, decided, call}
+use Rattle.book.specs.Chooser.{Tune, bumpVariable, decayVarInc, setVarDecay, bumpReasonLiterals, bumpVecOfVars, below, goodReason, goodDecay, fits, Next, chose, nothing, stuck, NextRight, IfSome, Chooser}
+use Rattle.book.specs.Session.{Result, done, refuse, status, reply, leaves, need, Session, wentBack, enqueued, withChooser, tuned, decided, call}
 use Rattle.book.proofs.Books.{fine-add, says, is-unassigned}
 use Rattle.book.proofs.Memory.{enq-holds, dec-holds}
 use Rattle.book.proofs.Going.{Good, GoodAfter, went}
@@ -41,13 +40,9 @@ counts-off true v ls = refl
 counts-off false v ls = refl
 
 module _ (n m : ℕ) (C : Chooser n m) where
-  abbrev pub lineOf : Call → Result n m C → Line
-  lineOf c x = record { call = c; status = x .status; reply = x .reply }
-
-  pub record Kept (ls : List Line) (s : Session n m C) (c : Call) (x : Result n m C) : Type 0 where
-    pub good : GoodAfter n m C (lineOf c x ∷ ls) (x .session)
-    pub moves : Moves n m (s .trail) (x .session .trail)
-    pub still : x .status ≢ 0 → x .session ≡ s
+  pub record Kept (ls : List Line) (s : Session n m C) (c : Call) (x : Result (Session n m C)) : Type 0 where
+    pub good : GoodAfter n m C (record { call = c; status = status x; reply = reply x } ∷ ls) (leaves s x)
+    pub moves : Moves n m (s .trail) ((leaves s x) .trail)
 
   went-moves : (l : ℕ) (s : Session n m C) → Moves n m (s .trail) ((wentBack n m C l s) .trail)
   unfolding wentBack
@@ -65,20 +60,19 @@ module _ (n m : ℕ) (C : Chooser n m) where
       }
 
   module _ (s : Session n m C) (ls : List Line) (g : GoodAfter n m C ls s) where
-    refused : (c : Call) (k : ℕ) → eqb k 0 ≡ false → Kept ls s c (refuse n m C k s)
-    unfolding refuse book
-    refused c k e = record { good = rw (counts-same (C .switches) (record { call = c; status = k; reply = none }) ls (rw e), e) g; moves = stays; still = λ ne. refl }
+    refused : (c : Call) (k : ℕ) → eqb k 0 ≡ false → Kept ls s c (refuse k)
+    unfolding book
+    refused c k e = record { good = rw (counts-same (C .switches) (record { call = c; status = k; reply = none }) ls (rw e), e) g; moves = stays }
 
-    needed : (c : Call) (k : ℕ) (t : Bool) {x : Result n m C} → eqb k 0 ≡ false → (t ≡ true → Kept ls s c x) → Kept ls s c (need n m C t k s x)
-    unfolding need
+    needed : (c : Call) (k : ℕ) (t : Bool) {x : Result (Session n m C)} → eqb k 0 ≡ false → (t ≡ true → Kept ls s c x) → Kept ls s c (need t k x)
     needed c k true e f = f refl
     needed c k false e f = refused c k e
 
     -- an accepted call that switches nothing off
     kept-by : (c : Call) (r : Option ℕ) {u : Session n m C} → switched c (on ls) ≡ on ls → Moves n m (s .trail) (u .trail)
-        → Good n m C (written c r (book ls)) (counts (C .switches) ls) u → Kept ls s c (accept n m C r u)
-    unfolding accept book
-    kept-by c r e mv q = record { good = rw (counts-same (C .switches) (record { call = c; status = 0; reply = r }) ls e) q; moves = mv; still = λ ne. absurd (ne refl) }
+        → Good n m C (written c r (book ls)) (counts (C .switches) ls) u → Kept ls s c (done r u)
+    unfolding book
+    kept-by c r e mv q = record { good = rw (counts-same (C .switches) (record { call = c; status = 0; reply = r }) ls e) q; moves = mv }
 
     with-good : {o : ℕ → Bool} (c : C .State) → C .ok (valuesOf n (book ls)) o c → Good n m C (book ls) o (withChooser n m C c s)
     with-good c q = record { fine = g .fine; holds = g .holds; ok = q }
@@ -93,14 +87,14 @@ module _ (n m : ℕ) (C : Chooser n m) where
         go (some d) q = kept-by c none e2 stays (rw e (with-good d q))
 
     -- what `get_next` owes, by the book
-    pub asked : Right n (valuesOf n (book ls)) (counts (C .switches) ls) (C .ok) (C .getNext (s .trail .values) (s .chooser))
-    asked = subst (λ (vs : List ℕ). Right n (valuesOf n (book ls)) (counts (C .switches) ls) (C .ok) (C .getNext vs (s .chooser))) (sym (g .holds .values)) (C .getNext-ok (s .chooser) (g .ok))
+    pub asked : NextRight n (valuesOf n (book ls)) (counts (C .switches) ls) (C .ok) (C .getNext (s .trail .values) (s .chooser))
+    asked = subst (λ (vs : List ℕ). NextRight n (valuesOf n (book ls)) (counts (C .switches) ls) (C .ok) (C .getNext vs (s .chooser))) (sym (g .holds .values)) (C .getNext-ok (s .chooser) (g .ok))
 
     decide-kept : (p : ℕ) → p < 2 → Kept ls s (decide p) (decided n m C p s (C .getNext (s .trail .values) (s .chooser)))
     unfolding decided written switched valuesOf
     decide-kept p hp = go (C .getNext (s .trail .values) (s .chooser)) asked
       where
-        go : (x : Next (C .State)) → Right n (valuesOf n (book ls)) (counts (C .switches) ls) (C .ok) x → Kept ls s (decide p) (decided n m C p s x)
+        go : (x : Next (C .State)) → NextRight n (valuesOf n (book ls)) (counts (C .switches) ls) (C .ok) x → Kept ls s (decide p) (decided n m C p s x)
         go (chose v d) (hv, ho, a, f) =
             let e = is-unassigned n m (g .fine) v hv a in
             let q1 : new v p / 2 ≡ v = omega arith in
@@ -113,9 +107,9 @@ module _ (n m : ℕ) (C : Chooser n m) where
         go (nothing d) (_, q) = kept-by (decide p) none refl stays (with-good d q)
         go stuck q = refused (decide p) pastOpen refl
 
-    off-kept : (v : ℕ) → v < n → Kept ls s (switchOff v) (accept n m C none (withChooser n m C (C .turnOff v (s .chooser)) s))
-    unfolding accept book written
-    off-kept v h = record { good = rw (counts-off (C .switches) v ls) (with-good _ (C .turnOff-ok v (s .chooser) h (g .ok))); moves = stays; still = λ ne. absurd (ne refl) }
+    off-kept : (v : ℕ) → v < n → Kept ls s (switchOff v) (done none (withChooser n m C (C .turnOff v (s .chooser)) s))
+    unfolding book written
+    off-kept v h = record { good = rw (counts-off (C .switches) v ls) (with-good _ (C .turnOff-ok v (s .chooser) h (g .ok))); moves = stays }
 
     pub kept : (c : Call) → Kept ls s c (call n m C s c)
     unfolding call written switched fits enqueued

@@ -1,24 +1,25 @@
 -- Term 3, proved of every chooser that keeps its laws: by one induction over the calls, (c) by one over the past.
 use Prim.Native.Nat.{ℕ, _<_}
 use mathlib.Core.Path.{_≡_, refl, sym, ap, _∙_}
-use mathlib.Core.Logic.{_↔_, _≢_}
+use mathlib.Core.Logic.{_↔_}
 use mathlib.Core.Bool.{Bool, true, false, not, false≢true}
 use mathlib.Core.Option.{none, Option·some-ne-none}
 use mathlib.Core.List.{List, [], _∷_}
 use native.Mathlib.Omega.{arith}
 use lib.Dec.{ltb, eqb}
+use borrow.Author.Tests.{lt-ltb}
 use Rattle.lit.specs.Numbers.{NONE, noVariable, badPolarity, assigned}
 use Rattle.lit.specs.Lits.{index, isAssigned}
-use Rattle.trail.specs.Trail.{Trail, freshTrail, enqAssignment, enqDecision, backtrackTo}
+use Rattle.trail.specs.Trail.{Trail, enqAssignment}
 use Rattle.book.specs.Calls.{Call, decide, learnUnit, Line}
 use Rattle.book.specs.Book.{Book, presentLevel, back, book, openings, valuesOf, on, counts}
-use Rattle.book.specs.Chooser.{goodReason, Next, chose, nothing, stuck, Right, Chooser}
-use Rattle.book.specs.Session.{Session, Result, fresh, accept, refuse, need, wentBack, enqueued, decided, call}
+use Rattle.book.specs.Chooser.{Next, chose, nothing, stuck, NextRight, Chooser}
+use Rattle.book.specs.Session.{done, status, reply, leaves, need, Session, fresh, wentBack, enqueued, decided, call}
 use Rattle.book.specs.Claim.{Event, Past, log, Records, recordsOf, recordsIn, SettledBy, Raises, JustBefore, here, earlier, AsThen, Each, Run, begin, step, run, Claim, Term3}
 use Rattle.book.proofs.Books.{length-openings, Seen, raised, over, seen, fine-nil}
 use Rattle.book.proofs.Memory.{fresh-holds, told}
-use Rattle.book.proofs.Going.{Good, GoodAfter, went}
-use Rattle.book.proofs.Steps.{Moves, stays, backtracks, decides, assigns, Kept, asked, kept}
+use Rattle.book.proofs.Going.{GoodAfter, went}
+use Rattle.book.proofs.Steps.{Kept, asked, kept}
 
 -- the records of an event are those in the book before it and after it
 abbrev Moment : ℕ → Event → Past → Type 0
@@ -54,18 +55,28 @@ counts-nil false = refl
 
 module _ (n m : ℕ) (C : Chooser n m) where
   -- (b)
-  none-right : (s : Session n m C) (ls : List Line) → GoodAfter n m C ls s → (p : ℕ) → eqb ((call n m C s (decide p)) .status) 0 ≡ true
-      → (call n m C s (decide p)) .reply ≡ none ↔ SettledBy n (C .switches) ls
-  unfolding call need refuse accept decided
+  none-right : (s : Session n m C) (ls : List Line) → GoodAfter n m C ls s → (p : ℕ) → eqb (status (call n m C s (decide p))) 0 ≡ true
+      → reply (call n m C s (decide p)) ≡ none ↔ SettledBy n (C .switches) ls
+  unfolding call decided
   none-right s ls g p = go (ltb p 2) (C .getNext (s .trail .values) (s .chooser)) (asked n m C s ls g)
     where
-      go : (t : Bool) (x : Next (C .State)) → Right n (valuesOf n (book ls)) (counts (C .switches) ls) (C .ok) x
-          → eqb ((need n m C t badPolarity s (decided n m C p s x)) .status) 0 ≡ true
-          → (need n m C t badPolarity s (decided n m C p s x)) .reply ≡ none ↔ SettledBy n (C .switches) ls
+      go : (t : Bool) (x : Next (C .State)) → NextRight n (valuesOf n (book ls)) (counts (C .switches) ls) (C .ok) x
+          → eqb (status (need t badPolarity (decided n m C p s x))) 0 ≡ true
+          → reply (need t badPolarity (decided n m C p s x)) ≡ none ↔ SettledBy n (C .switches) ls
       go false x q a = absurd (false≢true a)
       go true (chose v d) (hv, ho, hu, q) a = ((λ e. absurd (Option·some-ne-none v e)), (λ f. absurd (false≢true (sym hu ∙ f v hv ho))))
       go true (nothing d) (q, o) a = ((λ e. q), (λ f. refl))
       go true stuck q a = absurd (false≢true a)
+
+  -- and where all is settled, a decide is not refused with 14
+  pub settled-accepted : (s : Session n m C) (ls : List Line) → GoodAfter n m C ls s → SettledBy n (C .switches) ls → (p : ℕ) → p < 2 → status (call n m C s (decide p)) ≡ 0
+  unfolding call decided
+  settled-accepted s ls g f p h = rw (lt-ltb p 2 h) (go (C .getNext (s .trail .values) (s .chooser)) (asked n m C s ls g))
+    where
+      go : (x : Next (C .State)) → NextRight n (valuesOf n (book ls)) (counts (C .switches) ls) (C .ok) x → status (decided n m C p s x) ≡ 0
+      go (chose v d) q = refl
+      go (nothing d) q = refl
+      go stuck q = absurd (q f)
 
   -- (c)
   as-then : (s : Session n m C) (past : Past) → GoodAfter n m C (log past) s → Each (Moment n) past → (l : ℕ) → l < s .trail .level
@@ -75,17 +86,16 @@ module _ (n m : ℕ) (C : Chooser n m) where
       let (t, j, k) = find n l past ms (omega (arith, g .holds .opened .count, length-openings (book (log past)))) in
       (t, j, told n (went n m C l s g .holds) ∙ sym k)
 
-  unit-after : (s : Session n m C) (code : ℕ) → eqb ((call n m C s (learnUnit code)) .status) 0 ≡ true
-      → (call n m C s (learnUnit code)) .session .trail ≡ enqAssignment code NONE ((wentBack n m C 0 s) .trail)
-  unfolding call need refuse accept enqueued
+  unit-after : (s : Session n m C) (code : ℕ) → eqb (status (call n m C s (learnUnit code))) 0 ≡ true
+      → (leaves s (call n m C s (learnUnit code))) .trail ≡ enqAssignment code NONE ((wentBack n m C 0 s) .trail)
+  unfolding call enqueued
   unit-after s code = go (ltb (index code) n) (not (isAssigned ((wentBack n m C 0 s) .trail .values) (index code)))
     where
-      x : Result n m C
-      x = accept n m C none (enqueued n m C code NONE (wentBack n m C 0 s))
+      u : Session n m C
+      u = enqueued n m C code NONE (wentBack n m C 0 s)
 
-      go : (t u : Bool) → eqb ((need n m C t noVariable s (need n m C u assigned s x)) .status) 0 ≡ true
-          → (need n m C t noVariable s (need n m C u assigned s x)) .session .trail ≡ x .session .trail
-      go false u a = absurd (false≢true a)
+      go : (t t2 : Bool) → eqb (status (need t noVariable (need t2 assigned (done none u)))) 0 ≡ true → (leaves s (need t noVariable (need t2 assigned (done none u)))) .trail ≡ u .trail
+      go false t2 a = absurd (false≢true a)
       go true false a = absurd (false≢true a)
       go true true a = refl
 
@@ -114,7 +124,7 @@ module _ (n m : ℕ) (C : Chooser n m) where
         claim = record {
           told = told n (k .good .holds);
           noneRight = ((λ p e a. rw e (none-right s (log (r .past)) (i .good) p (rw e at a))), i .claim .noneRight);
-          backRight = ((λ l e a h. rw e (unfold call accept in (as-then s (r .past) (i .good) (i .moments) l h))), i .claim .backRight);
+          backRight = ((λ l e a h. rw e (unfold call in (as-then s (r .past) (i .good) (i .moments) l h))), i .claim .backRight);
           unitRight = (
             (λ code e a h. ((wentBack n m C 0 s) .trail, as-then s (r .past) (i .good) (i .moments) 0 h, rw e (unit-after s code (rw e at a)))),
             i .claim .unitRight,
@@ -133,30 +143,3 @@ module _ (n m : ℕ) (C : Chooser n m) where
 
   pub term3 : Term3 n m C
   term3 calls = every calls .claim
-
-  -- a refused call leaves the session as it was
-  pub refused-still : (r : Run n m C) (c : Call) → Inv r → (call n m C (r .now) c) .status ≢ 0 → (call n m C (r .now) c) .session ≡ r .now
-  refused-still r c i = kept n m C (r .now) (log (r .past)) (i .good) c .still
-
-  -- what holds of a fresh trail and is kept by the trail's steps holds of the trail of every run
-  pub record Lasting (P : Trail → Type 0) : Type 0 where
-    pub at-first : P (freshTrail n)
-    pub back-to : (l : ℕ) (t : Trail) → l < t .level → P t → P (backtrackTo l t)
-    pub decision : (v p : ℕ) (t : Trail) → v < n → p < 2 → isAssigned (t .values) v ≡ false → P t → P (enqDecision v p t)
-    pub assignment : (code reason : ℕ) (t : Trail) → index code < n → goodReason m reason ≡ true → isAssigned (t .values) (index code) ≡ false → P t → P (enqAssignment code reason t)
-
-  module _ (P : Trail → Type 0) (k : Lasting P) where
-    lasts : {t u : Trail} → Moves n m t u → P t → P u
-    lasts stays p = p
-    lasts {t} (backtracks l h) p = k .back-to l t h p
-    lasts {t} (decides v q hv hq a) p = k .decision v q t hv hq a p
-    lasts (assigns code reason {u} h hr a mv) p = k .assignment code reason u h hr a (lasts mv p)
-
-    lasting : (r : Run n m C) (calls : List Call) → Inv r → P (r .now .trail) → P ((run n m C r calls) .now .trail)
-    unfolding run step
-    lasting r [] i p = p
-    lasting r (c ∷ cs) i p = lasting (step n m C r c) cs (stepped r c i) (lasts (kept n m C (r .now) (log (r .past)) (i .good) c .moves) p)
-
-    pub throughout : (calls : List Call) → P ((run n m C (begin n m C) calls) .now .trail)
-    unfolding begin fresh
-    throughout calls = lasting (begin n m C) calls began (k .at-first)

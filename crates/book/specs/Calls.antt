@@ -6,23 +6,18 @@ use mathlib.Core.List.{List}
 use lib.Dec.{eqb}
 use lib.Ieee.{Float}
 
+-- bump, insert, switch off and bump reason take a variable, decide a polarity, enqueue a code and a reason, learn-unit a code,
+-- going back a level, and a group its variables
 pub data Call : Type 0 where
-  -- a variable
   bump : ℕ → Call
   decay : Call
   setDecay : Float → Call
-  -- a variable
   insert : ℕ → Call
   switchOff : ℕ → Call
-  -- a polarity
   decide : ℕ → Call
-  -- a code and a reason
   enqueue : ℕ → ℕ → Call
-  -- a code
   learnUnit : ℕ → Call
-  -- a level
   goBack : ℕ → Call
-  -- a variable
   bumpReason : ℕ → Call
   group : List ℕ → Call
 

@@ -20,7 +20,7 @@ pub data Tune : Type 0 where
   bumpReasonLiterals : ℕ → Tune
   bumpVecOfVars : List ℕ → Tune
 
--- the tests of document 01 on arguments. 8, for a group: every variable is below n
+-- the tests that refusals 8, 10 and 12 make of arguments. 8, for a group: every variable is below n
 unfoldable pub below : ℕ → List ℕ → Bool
 below n [] = true
 below n (v ∷ vs) = ltb v n && below n vs
@@ -29,11 +29,17 @@ below n (v ∷ vs) = ltb v n && below n vs
 abbrev pub goodReason : ℕ → ℕ → Bool
 goodReason m r = eqb r NONE || ltb r m
 
--- 12: from 0.5 to 1. Of a NaN neither comparison holds
-abbrev pub goodDecay : Float → Bool
-goodDecay d = le (ofBits binary64 0x3fe0_0000_0000_0000) d && le d (ofBits binary64 0x3ff0_0000_0000_0000)
+-- 12: from 0.5 to 1. Of a NaN no comparison holds
+abbrev pub half : Float
+half = ofBits binary64 0x3fe0_0000_0000_0000
 
--- what a session has tested before it hands an operation on
+abbrev pub one : Float
+one = ofBits binary64 0x3ff0_0000_0000_0000
+
+abbrev pub goodDecay : Float → Bool
+goodDecay d = le half d && le d one
+
+-- what a session knows of the arguments when it hands an operation on
 unfoldable pub fits : ℕ → ℕ → Tune → Bool
 fits n m (bumpVariable v) = ltb v n
 fits n m decayVarInc = true
@@ -51,14 +57,14 @@ pub data Next (S : Type 0) : Type 0 where
 abbrev pub Settled : ℕ → List ℕ → (ℕ → Bool) → Type 0
 Settled n values on = (v : ℕ) → v < n → on v ≡ true → isAssigned values v ≡ true
 
--- What `get_next` owes. The variable chosen is below n, on and unassigned, and once it has a value the state is good;
--- it says none exactly when nothing that is on is unassigned; and 14 stands where its search is past an open variable
-abbrev pub Right : {S : Type 0} → ℕ → List ℕ → (ℕ → Bool) → (List ℕ → (ℕ → Bool) → S → Type 0) → Next S → Type 0
-Right n values on ok (chose v c) = (v < n) × (on v ≡ true) × (isAssigned values v ≡ false) × ((p : ℕ) → p < 2 → ok (set values v p) on c)
-Right n values on ok (nothing c) = Settled n values on × ok values on c
-Right n values on ok stuck = ¬ (Settled n values on)
+-- What `get_next` owes: the variable chosen is below n, on and unassigned, and with a value for it the state is good again;
+-- none comes when nothing that is on is unassigned, and 14 only where something is: so none comes exactly then
+abbrev pub NextRight : {S : Type 0} → ℕ → List ℕ → (ℕ → Bool) → (List ℕ → (ℕ → Bool) → S → Type 0) → Next S → Type 0
+NextRight n values on ok (chose v c) = (v < n) × (on v ≡ true) × (isAssigned values v ≡ false) × ((p : ℕ) → p < 2 → ok (set values v p) on c)
+NextRight n values on ok (nothing c) = Settled n values on × ok values on c
+NextRight n values on ok stuck = ¬ (Settled n values on)
 
--- of the new state, unless there is none
+-- P of the new state, if there is one
 abbrev pub IfSome : {S : Type 0} → (S → Type 0) → Option S → Type 0
 IfSome P none = Unit {0}
 IfSome P (some c) = P c
@@ -67,9 +73,9 @@ IfSome P (some c) = P c
 pub record Chooser (n m : ℕ) : Type 1 where
   pub State : Type 0
   pub ok : List ℕ → (ℕ → Bool) → State → Type 0
-  -- whether it has switches: heap mode
+  -- whether switching off counts, as in heap mode
   pub switches : Bool
-  -- `new`, and the operations that only move its order; none: 'the decayed step would be above 1e200' (13)
+  -- `new`, and the operations that only move the order; no state where 'the decayed step would be above 1e200' (13)
   pub start : State
   pub tune : Tune → State → Option State
   -- `insert`, as a call, and for a variable that has just been undone
@@ -83,6 +89,6 @@ pub record Chooser (n m : ℕ) : Type 1 where
   pub insert-ok : (v : ℕ) (c : State) {values : List ℕ} {on : ℕ → Bool} → v < n → ok values on c → ok values on (insert v c)
   pub offer-ok : (v : ℕ) (c : State) {values : List ℕ} {on : ℕ → Bool} → v < n → ok values on c → ok (set values v unassigned) on (offer v c)
   pub turnOff-ok : (v : ℕ) (c : State) {values : List ℕ} {on : ℕ → Bool} → v < n → ok values on c → ok values (cond switches (without v on) on) (turnOff v c)
-  -- a variable gets a value by another call
+  -- a variable gets its value from another call
   pub assign-ok : (v p : ℕ) (c : State) {values : List ℕ} {on : ℕ → Bool} → v < n → p < 2 → ok values on c → ok (set values v p) on c
-  pub getNext-ok : (c : State) {values : List ℕ} {on : ℕ → Bool} → ok values on c → Right n values on ok (getNext values c)
+  pub getNext-ok : (c : State) {values : List ℕ} {on : ℕ → Bool} → ok values on c → NextRight n values on ok (getNext values c)

@@ -12,7 +12,7 @@ use Rattle.trail.specs.Trail.{Trail, enqAssignment}
 use Rattle.book.specs.Calls.{Call, decide, learnUnit, goBack, Line, accepted}
 use Rattle.book.specs.Book.{Book, presentLevel, book, codes, openings, valuesOf, reasonsOf, levelsOf, counts}
 use Rattle.book.specs.Chooser.{Settled, Chooser}
-use Rattle.book.specs.Session.{Session, fresh, call}
+use Rattle.book.specs.Session.{status, reply, leaves, Session, fresh, call}
 
 -- a call of a run: its line in the log, and the trail before and after it
 pub record Event : Type 0 where
@@ -119,13 +119,10 @@ module _ (n m : ℕ) (C : Chooser n m) where
   unfoldable pub step : Run → Call → Run
   step r c =
       let x = call n m C (r .now) c in
+      let next = leaves (r .now) x in
       record {
-        now = x .session;
-        past = record {
-          line = record { call = c; status = x .status; reply = x .reply };
-          before = r .now .trail;
-          after = x .session .trail;
-        } ∷ r .past;
+        now = next;
+        past = record { line = record { call = c; status = status x; reply = reply x }; before = r .now .trail; after = next .trail } ∷ r .past;
       }
 
   unfoldable pub run : Run → List Call → Run

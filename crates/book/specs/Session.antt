@@ -9,7 +9,30 @@ use Rattle.lit.specs.Numbers.{NONE, noVariable, badPolarity, badReason, assigne
 use Rattle.lit.specs.Lits.{index, isAssigned}
 use Rattle.trail.specs.Trail.{Trail, freshTrail, enqAssignment, enqDecision, backtrackTo, undone}
 use Rattle.book.specs.Calls.{Call, bump, decay, setDecay, insert, switchOff, decide, enqueue, learnUnit, goBack, bumpReason, group}
-use Rattle.book.specs.Chooser.{Tune, bumpVariable, decayVarInc, setVarDecay, bumpReasonLiterals, bumpVecOfVars, below, goodReason, goodDecay, Next, chose, nothing, stuck, Chooser}
+use Rattle.book.specs.Chooser.{bumpVariable, decayVarInc, setVarDecay, bumpReasonLiterals, bumpVecOfVars, below, goodReason, goodDecay, Next, chose, nothing, stuck, Chooser}
+
+-- 'Every call returns 0 with its reply, or the first of these with reply NONE; then state and buffers are unchanged'
+pub data Result (S : Type 0) : Type 0 where
+  done : Option ℕ → S → Result S
+  refuse : ℕ → Result S
+
+abbrev pub status : {S : Type 0} → Result S → ℕ
+status (done r s) = 0
+status (refuse k) = k
+
+abbrev pub reply : {S : Type 0} → Result S → Option ℕ
+reply (done r s) = r
+reply (refuse k) = none
+
+-- the session that a call on s leaves
+abbrev pub leaves : {S : Type 0} → S → Result S → S
+leaves s (done r u) = u
+leaves s (refuse k) = s
+
+-- refusal k, unless the test passes
+abbrev pub need : {S : Type 0} → Bool → ℕ → Result S → Result S
+need true k x = x
+need false k x = refuse k
 
 -- n variables, m clauses
 module _ (n m : ℕ) (C : Chooser n m) where
@@ -19,23 +42,6 @@ module _ (n m : ℕ) (C : Chooser n m) where
 
   unfoldable pub fresh : Session
   fresh = record { trail = freshTrail n; chooser = C .start }
-
-  -- what a call returns, and the session that it leaves
-  pub record Result : Type 0 where
-    pub status : ℕ
-    pub reply : Option ℕ
-    pub session : Session
-
-  unfoldable pub accept : Option ℕ → Session → Result
-  accept r s = record { status = 0; reply = r; session = s }
-
-  unfoldable pub refuse : ℕ → Session → Result
-  refuse k s = record { status = k; reply = none; session = s }
-
-  -- refusal k, unless the test passes
-  unfoldable pub need : Bool → ℕ → Session → Result → Result
-  need true k s r = r
-  need false k s r = refuse k s
 
   -- 'Undone variables are offered to `insert`, last first.'
   unfoldable pub offerAll : List ℕ → C .State → C .State
@@ -53,35 +59,35 @@ module _ (n m : ℕ) (C : Chooser n m) where
   abbrev pub withChooser : C .State → Session → Session
   withChooser c s = record { trail = s .trail; chooser = c }
 
-  unfoldable pub tuned : Session → Option (C .State) → Result
-  tuned s none = refuse largeStep s
-  tuned s (some c) = accept none (withChooser c s)
+  unfoldable pub tuned : Session → Option (C .State) → Result Session
+  tuned s none = refuse largeStep
+  tuned s (some c) = done none (withChooser c s)
 
   -- 'Decide is `get_next` followed at once by `enq_decision`.'
-  unfoldable pub decided : ℕ → Session → Next (C .State) → Result
-  decided p s (chose v c) = accept (some v) (record { trail = enqDecision v p (s .trail); chooser = c })
-  decided p s (nothing c) = accept none (withChooser c s)
-  decided p s stuck = refuse pastOpen s
+  unfoldable pub decided : ℕ → Session → Next (C .State) → Result Session
+  decided p s (chose v c) = done (some v) (record { trail = enqDecision v p (s .trail); chooser = c })
+  decided p s (nothing c) = done none (withChooser c s)
+  decided p s stuck = refuse pastOpen
 
   -- the tests in the order of document 01's list
-  unfoldable pub call : Session → Call → Result
-  call s (bump v) = need (ltb v n) noVariable s (tuned s (C .tune (bumpVariable v) (s .chooser)))
+  unfoldable pub call : Session → Call → Result Session
+  call s (bump v) = need (ltb v n) noVariable (tuned s (C .tune (bumpVariable v) (s .chooser)))
   call s decay = tuned s (C .tune decayVarInc (s .chooser))
-  call s (setDecay d) = need (goodDecay d) badDecay s (tuned s (C .tune (setVarDecay d) (s .chooser)))
-  call s (insert v) = need (ltb v n) noVariable s (accept none (withChooser (C .insert v (s .chooser)) s))
-  call s (switchOff v) = need (ltb v n) noVariable s (accept none (withChooser (C .turnOff v (s .chooser)) s))
-  call s (decide p) = need (ltb p 2) badPolarity s (decided p s (C .getNext (s .trail .values) (s .chooser)))
+  call s (setDecay d) = need (goodDecay d) badDecay (tuned s (C .tune (setVarDecay d) (s .chooser)))
+  call s (insert v) = need (ltb v n) noVariable (done none (withChooser (C .insert v (s .chooser)) s))
+  call s (switchOff v) = need (ltb v n) noVariable (done none (withChooser (C .turnOff v (s .chooser)) s))
+  call s (decide p) = need (ltb p 2) badPolarity (decided p s (C .getNext (s .trail .values) (s .chooser)))
   call s (enqueue code reason) =
-      need (ltb (index code) n) noVariable s (
-      need (goodReason m reason) badReason s (
-      need (not (isAssigned (s .trail .values) (index code))) assigned s (
-      accept none (enqueued code reason s))))
+      need (ltb (index code) n) noVariable (
+      need (goodReason m reason) badReason (
+      need (not (isAssigned (s .trail .values) (index code))) assigned (
+      done none (enqueued code reason s))))
   -- 'Learn-unit goes back to level 0, then enqueues with reason NONE.'
   call s (learnUnit code) =
-      need (ltb (index code) n) noVariable s (
-      need (not (isAssigned ((wentBack 0 s) .trail .values) (index code))) assigned s (
-      accept none (enqueued code NONE (wentBack 0 s))))
+      need (ltb (index code) n) noVariable (
+      need (not (isAssigned ((wentBack 0 s) .trail .values) (index code))) assigned (
+      done none (enqueued code NONE (wentBack 0 s))))
   -- 'The number undone is the trail's length before less that after'
-  call s (goBack l) = accept (some (s .trail .len - (wentBack l s) .trail .len)) (wentBack l s)
-  call s (bumpReason v) = need (ltb v n) noVariable s (tuned s (C .tune (bumpReasonLiterals (getD (s .trail .reasons) v 0)) (s .chooser)))
-  call s (group vs) = need (below n vs) noVariable s (tuned s (C .tune (bumpVecOfVars vs) (s .chooser)))
+  call s (goBack l) = done (some (s .trail .len - (wentBack l s) .trail .len)) (wentBack l s)
+  call s (bumpReason v) = need (ltb v n) noVariable (tuned s (C .tune (bumpReasonLiterals (getD (s .trail .reasons) v 0)) (s .chooser)))
+  call s (group vs) = need (below n vs) noVariable (tuned s (C .tune (bumpVecOfVars vs) (s .chooser)))
