@@ -1,7 +1,7 @@
 -- Each call leaves a session that the book fits and changes the trail by its steps alone. By cases on the call.
 use Prim.Native.Nat.{ℕ, _/_, _%_, _<_}
 use mathlib.Core.Path.{_≡_, refl, sym, subst}
-use mathlib.Core.Bool.{Bool, true, false, cond, not}
+use mathlib.Core.Bool.{Bool, true, false, cond}
 use mathlib.Core.Option.{Option, none, some}
 use mathlib.Core.List.{List, _∷_}
 use native.Mathlib.Omega.{arith}
@@ -9,12 +9,12 @@ use lib.ListN.{getD}
 use lib.Dec.{ltb, eqb}
 use borrow.Author.Tests.{ltb-true, not-true}
 use Rattle.laws.specs.Tests.{cond-elim}
-use Rattle.lit.specs.Numbers.{NONE, noVariable, badPolarity, badReason, assigned, badDecay, largeStep, pastOpen}
+use Rattle.lit.specs.Numbers.{NONE, largeStep, pastOpen}
 use Rattle.lit.specs.Lits.{index, polarity, new, isAssigned}
 use Rattle.trail.specs.Trail.{Trail, enqAssignment, enqDecision, backtrackTo}
 use Rattle.book.specs.Calls.{Call, bump, decay, setDecay, insert, switchOff, decide, enqueue, learnUnit, goBack, bumpReason, group, Line, accepted}
 use Rattle.book.specs.Book.{entry, Book, written, book, valuesOf, without, switched, on, counts}
-use Rattle.book.specs.Chooser.{Tune, bumpVariable, decayVarInc, setVarDecay, bumpReasonLiterals, bumpVecOfVars, below, goodReason, goodDecay, fits, Next, chose, nothing, stuck, NextRight, IfSome, Chooser}
+use Rattle.book.specs.Chooser.{Tune, bumpVariable, decayVarInc, setVarDecay, bumpReasonLiterals, bumpVecOfVars, goodReason, fits, Next, chose, nothing, stuck, NextRight, IfSome, Chooser}
 use Rattle.book.specs.Session.{Result, done, refuse, status, reply, leaves, need, Session, wentBack, enqueued, withChooser, tuned, decided, call}
 use Rattle.book.proofs.Books.{fine-add, says, is-unassigned}
 use Rattle.book.proofs.Memory.{enq-holds, dec-holds}
@@ -60,31 +60,32 @@ module _ (n m : ℕ) (C : Chooser n m) where
       }
 
   module _ (s : Session n m C) (ls : List Line) (g : GoodAfter n m C ls s) where
-    refused : (c : Call) (k : ℕ) → eqb k 0 ≡ false → Kept ls s c (refuse k)
+    refused : {c : Call} (k : ℕ) → eqb k 0 ≡ false → Kept ls s c (refuse k)
     unfolding book
-    refused c k e = record { good = rw (counts-same (C .switches) (record { call = c; status = k; reply = none }) ls (rw e), e) g; moves = stays }
+    refused {c} k e = record { good = rw (counts-same (C .switches) (record { call = c; status = k; reply = none }) ls (rw e), e) g; moves = stays }
 
-    needed : (c : Call) (k : ℕ) (t : Bool) {x : Result (Session n m C)} → eqb k 0 ≡ false → (t ≡ true → Kept ls s c x) → Kept ls s c (need t k x)
-    needed c k true e f = f refl
-    needed c k false e f = refused c k e
+    needed : {c : Call} (k : ℕ) (t : Bool) {x : Result (Session n m C)} → eqb k 0 ≡ false → (t ≡ true → Kept ls s c x) → Kept ls s c (need t k x)
+    unfolding need
+    needed k true e f = f refl
+    needed k false e f = refused k e
 
     -- an accepted call that switches nothing off
-    kept-by : (c : Call) (r : Option ℕ) {u : Session n m C} → switched c (on ls) ≡ on ls → Moves n m (s .trail) (u .trail)
+    kept-by : {c : Call} {r : Option ℕ} {u : Session n m C} → switched c (on ls) ≡ on ls → Moves n m (s .trail) (u .trail)
         → Good n m C (written c r (book ls)) (counts (C .switches) ls) u → Kept ls s c (done r u)
     unfolding book
-    kept-by c r e mv q = record { good = rw (counts-same (C .switches) (record { call = c; status = 0; reply = r }) ls e) q; moves = mv }
+    kept-by {c} {r} e mv q = record { good = rw (counts-same (C .switches) (record { call = c; status = 0; reply = r }) ls e) q; moves = mv }
 
     with-good : {o : ℕ → Bool} (c : C .State) → C .ok (valuesOf n (book ls)) o c → Good n m C (book ls) o (withChooser n m C c s)
     with-good c q = record { fine = g .fine; holds = g .holds; ok = q }
 
-    tune-kept : (c : Call) (t : Tune) → fits n m t ≡ true → written c none (book ls) ≡ book ls → switched c (on ls) ≡ on ls
+    tune-kept : {c : Call} (t : Tune) → fits n m t ≡ true → written c none (book ls) ≡ book ls → switched c (on ls) ≡ on ls
         → Kept ls s c (tuned n m C s (C .tune t (s .chooser)))
     unfolding tuned
-    tune-kept c t h e e2 = go (C .tune t (s .chooser)) (C .tune-ok t (s .chooser) h (g .ok))
+    tune-kept {c} t h e e2 = go (C .tune t (s .chooser)) (C .tune-ok t (s .chooser) h (g .ok))
       where
         go : (x : Option (C .State)) → IfSome (C .ok (valuesOf n (book ls)) (counts (C .switches) ls)) x → Kept ls s c (tuned n m C s x)
-        go none q = refused c largeStep refl
-        go (some d) q = kept-by c none e2 stays (rw e (with-good d q))
+        go none q = refused largeStep refl
+        go (some d) q = kept-by e2 stays (rw e (with-good d q))
 
     -- what `get_next` owes, by the book
     pub asked : NextRight n (valuesOf n (book ls)) (counts (C .switches) ls) (C .ok) (C .getNext (s .trail .values) (s .chooser))
@@ -99,13 +100,13 @@ module _ (n m : ℕ) (C : Chooser n m) where
             let e = is-unassigned n m (g .fine) v hv a in
             let q1 : new v p / 2 ≡ v = omega arith in
             let q2 : new v p % 2 ≡ p = omega arith in
-            kept-by (decide p) (some v) refl (decides v p hv hp (rw (g .holds .values) a)) (record {
+            kept-by refl (decides v p hv hp (rw (g .holds .values) a)) (record {
               fine = fine-add {c = new v p} {b = book ls} (rw q1 hv) refl (rw q1 e) (g .fine);
               holds = dec-holds n m v p (book ls) (s .trail) (g .fine) hv hp e (g .holds);
               ok = rw (q1, q2) (f p hp);
             })
-        go (nothing d) (_, q) = kept-by (decide p) none refl stays (with-good d q)
-        go stuck q = refused (decide p) pastOpen refl
+        go (nothing d) (_, q) = kept-by refl stays (with-good d q)
+        go stuck q = refused pastOpen refl
 
     off-kept : (v : ℕ) → v < n → Kept ls s (switchOff v) (done none (withChooser n m C (C .turnOff v (s .chooser)) s))
     unfolding book written
@@ -113,31 +114,31 @@ module _ (n m : ℕ) (C : Chooser n m) where
 
     pub kept : (c : Call) → Kept ls s c (call n m C s c)
     unfolding call written switched fits enqueued
-    kept (bump v) = needed (bump v) noVariable (ltb v n) refl (λ h. tune-kept (bump v) (bumpVariable v) h refl refl)
-    kept decay = tune-kept decay decayVarInc refl refl refl
-    kept (setDecay d) = needed (setDecay d) badDecay (goodDecay d) refl (λ h. tune-kept (setDecay d) (setVarDecay d) h refl refl)
+    kept (bump v) = needed _ _ refl (λ h. tune-kept (bumpVariable v) h refl refl)
+    kept decay = tune-kept decayVarInc refl refl refl
+    kept (setDecay d) = needed _ _ refl (λ h. tune-kept (setVarDecay d) h refl refl)
     kept (insert v) =
-        needed (insert v) noVariable (ltb v n) refl (λ h.
-        kept-by (insert v) none refl stays (with-good (C .insert v (s .chooser)) (C .insert-ok v (s .chooser) (ltb-true v n h) (g .ok))))
-    kept (switchOff v) = needed (switchOff v) noVariable (ltb v n) refl (λ h. off-kept v (ltb-true v n h))
-    kept (decide p) = needed (decide p) badPolarity (ltb p 2) refl (λ h. decide-kept p (ltb-true p 2 h))
+        needed _ _ refl (λ h.
+        kept-by refl stays (with-good (C .insert v (s .chooser)) (C .insert-ok v (s .chooser) (ltb-true v n h) (g .ok))))
+    kept (switchOff v) = needed _ _ refl (λ h. off-kept v (ltb-true v n h))
+    kept (decide p) = needed _ _ refl (λ h. decide-kept p (ltb-true p 2 h))
     kept (enqueue code reason) =
-        needed (enqueue code reason) noVariable (ltb (index code) n) refl (λ h.
-        needed (enqueue code reason) badReason (goodReason m reason) refl (λ hr.
-        needed (enqueue code reason) assigned (not (isAssigned (s .trail .values) (index code))) refl (λ q.
-        let hv = ltb-true (index code) n h in
+        needed _ _ refl (λ h.
+        needed _ _ refl (λ hr.
+        needed _ _ refl (λ q.
+        let hv : index code < n = ltb-true (index code) n h in
         let a = not-true (isAssigned (s .trail .values) (index code)) q in
-        kept-by (enqueue code reason) none refl (assigns code reason hv hr a stays) (enqueued-good code reason s g hv hr a))))
+        kept-by refl (assigns code reason hv hr a stays) (enqueued-good code reason s g hv hr a))))
     kept (learnUnit code) =
         let u = wentBack n m C 0 s in
-        needed (learnUnit code) noVariable (ltb (index code) n) refl (λ h.
-        needed (learnUnit code) assigned (not (isAssigned (u .trail .values) (index code))) refl (λ q.
-        let hv = ltb-true (index code) n h in
+        needed _ _ refl (λ h.
+        needed _ _ refl (λ q.
+        let hv : index code < n = ltb-true (index code) n h in
         let a = not-true (isAssigned (u .trail .values) (index code)) q in
-        kept-by (learnUnit code) none refl (assigns code NONE hv refl a (went-moves 0 s)) (enqueued-good code NONE u (went n m C 0 s g) hv refl a)))
-    kept (goBack l) = kept-by (goBack l) _ refl (went-moves l s) (went n m C l s g)
+        kept-by refl (assigns code NONE hv refl a (went-moves 0 s)) (enqueued-good code NONE u (went n m C 0 s g) hv refl a)))
+    kept (goBack l) = kept-by refl (went-moves l s) (went n m C l s g)
     kept (bumpReason v) =
-        needed (bumpReason v) noVariable (ltb v n) refl (λ h.
+        needed _ _ refl (λ h.
         let r = says n m (g .fine) v (ltb-true v n h) .reason-good in
-        tune-kept (bumpReason v) (bumpReasonLiterals (getD (s .trail .reasons) v 0)) (rw (g .holds .reasons) r) refl refl)
-    kept (group vs) = needed (group vs) noVariable (below n vs) refl (λ h. tune-kept (group vs) (bumpVecOfVars vs) h refl refl)
+        tune-kept (bumpReasonLiterals (getD (s .trail .reasons) v 0)) (rw (g .holds .reasons) r) refl refl)
+    kept (group vs) = needed _ _ refl (λ h. tune-kept (bumpVecOfVars vs) h refl refl)

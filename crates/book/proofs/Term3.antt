@@ -57,7 +57,7 @@ module _ (n m : ℕ) (C : Chooser n m) where
   -- (b)
   none-right : (s : Session n m C) (ls : List Line) → GoodAfter n m C ls s → (p : ℕ) → eqb (status (call n m C s (decide p))) 0 ≡ true
       → reply (call n m C s (decide p)) ≡ none ↔ SettledBy n (C .switches) ls
-  unfolding call decided
+  unfolding call need decided
   none-right s ls g p = go (ltb p 2) (C .getNext (s .trail .values) (s .chooser)) (asked n m C s ls g)
     where
       go : (t : Bool) (x : Next (C .State)) → NextRight n (valuesOf n (book ls)) (counts (C .switches) ls) (C .ok) x
@@ -70,7 +70,7 @@ module _ (n m : ℕ) (C : Chooser n m) where
 
   -- and where all is settled, a decide is not refused with 14
   pub settled-accepted : (s : Session n m C) (ls : List Line) → GoodAfter n m C ls s → SettledBy n (C .switches) ls → (p : ℕ) → p < 2 → status (call n m C s (decide p)) ≡ 0
-  unfolding call decided
+  unfolding call need decided
   settled-accepted s ls g f p h = rw (lt-ltb p 2 h) (go (C .getNext (s .trail .values) (s .chooser)) (asked n m C s ls g))
     where
       go : (x : Next (C .State)) → NextRight n (valuesOf n (book ls)) (counts (C .switches) ls) (C .ok) x → status (decided n m C p s x) ≡ 0
@@ -88,7 +88,7 @@ module _ (n m : ℕ) (C : Chooser n m) where
 
   unit-after : (s : Session n m C) (code : ℕ) → eqb (status (call n m C s (learnUnit code))) 0 ≡ true
       → (leaves s (call n m C s (learnUnit code))) .trail ≡ enqAssignment code NONE ((wentBack n m C 0 s) .trail)
-  unfolding call enqueued
+  unfolding call need enqueued
   unit-after s code = go (ltb (index code) n) (not (isAssigned ((wentBack n m C 0 s) .trail .values) (index code)))
     where
       u : Session n m C

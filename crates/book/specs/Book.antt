@@ -1,5 +1,5 @@
--- 'The book of demand 3 is a list of entries .. fed calls and answers alone.' Books and logs have the newest first;
--- proofs/Letter.antt shows them equal to document 01's, which has the oldest first.
+-- 'The book of demand 3 is a list of entries.' Here books and logs have the newest first; proofs/Letter.antt shows that `back`, `codes`
+-- and `openings` are document 01's, where the oldest is first.
 use Prim.Native.Nat.{ℕ, _+_}
 use mathlib.Core.Bool.{Bool, true, false, cond}
 use mathlib.Core.Option.{Option, none, some}
@@ -28,7 +28,8 @@ unfoldable pub back : ℕ → Book → Book
 back l [] = []
 back l (e ∷ b) = cond (leb (presentLevel (e ∷ b)) l) (e ∷ b) (back l b)
 
--- what an accepted call writes, by its reply. '"none" and other calls leave it'
+-- 'Decide answering v adds code 2v + polarity with reason NONE, marked opening; enqueue adds its code and reason. .. Learn-unit goes
+-- back to 0, then adds code and NONE. Refusals, "none" and other calls leave it.'
 unfoldable pub written : Call → Option ℕ → Book → Book
 written (bump v) r b = b
 written decay r b = b
@@ -43,7 +44,7 @@ written (goBack l) r b = back l b
 written (bumpReason v) r b = b
 written (group vs) r b = b
 
--- 'it starts empty'; 'Refusals .. leave it'
+-- 'it starts empty and is fed calls and answers alone'
 unfoldable pub book : List Line → Book
 book [] = []
 book (l ∷ ls) = cond (accepted l) (written (l .call) (l .reply) (book ls)) (book ls)
@@ -94,7 +95,7 @@ unfoldable pub on : List Line → ℕ → Bool
 on [] = λ v. true
 on (l ∷ ls) = cond (accepted l) (switched (l .call) (on ls)) (on ls)
 
--- the variables that count for "none": the switched-on ones in a mode with switches; 'in list mode, no variable at all', that is, all count
+-- the variables that may not be unassigned when a decide says none: those that are on; 'in list mode, no variable at all' may be
 unfoldable pub counts : Bool → List Line → ℕ → Bool
 counts true ls = on ls
 counts false ls = λ v. true

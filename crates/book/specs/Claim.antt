@@ -1,4 +1,4 @@
--- Term 3: one claim on the whole list of calls, refused ones included.
+-- Term 3: 'one claim on the whole list, not one per call'. proofs/Term3.antt proves it.
 use Prim.Native.Nat.{ℕ, _+_, _<_}
 use mathlib.Core.Path.{_≡_}
 use mathlib.Core.Logic.{_↔_}
@@ -129,6 +129,7 @@ module _ (n m : ℕ) (C : Chooser n m) where
   run r [] = r
   run r (c ∷ cs) = run (step r c) cs
 
+  -- (a), 'after the list, values, reasons, .. are those in 01's book'; (b) and (c) of each call in it
   pub record Claim (r : Run) : Type 0 where
     pub told : recordsOf (r .now .trail) ≡ recordsIn n (book (log (r .past)))
     pub noneRight : Each (NoneRight n (C .switches)) (r .past)

@@ -30,7 +30,7 @@ leaves s (done r u) = u
 leaves s (refuse k) = s
 
 -- refusal k, unless the test passes
-abbrev pub need : {S : Type 0} → Bool → ℕ → Result S → Result S
+unfoldable pub need : {S : Type 0} → Bool → ℕ → Result S → Result S
 need true k x = x
 need false k x = refuse k
 
@@ -69,7 +69,7 @@ module _ (n m : ℕ) (C : Chooser n m) where
   decided p s (nothing c) = done none (withChooser c s)
   decided p s stuck = refuse pastOpen
 
-  -- the tests in the order of document 01's list
+  -- in either mode the arguments are tested first, in the order of document 01's list
   unfoldable pub call : Session → Call → Result Session
   call s (bump v) = need (ltb v n) noVariable (tuned s (C .tune (bumpVariable v) (s .chooser)))
   call s decay = tuned s (C .tune decayVarInc (s .chooser))
