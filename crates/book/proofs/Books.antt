@@ -124,12 +124,12 @@ pub record Says (m value reason level : ℕ) : Type 0 where
   pub no-reason : value ≡ unassigned → reason ≡ NONE
   pub no-level : value ≡ unassigned → level ≡ NONE
 
-pub says : (n m : ℕ) {b : Book} → Fine n m b → (v : ℕ) → v < n → Says m (getD (valuesOf n b) v 0) (getD (reasonsOf n b) v 0) (getD (levelsOf n b) v 0)
+pub says : {n m : ℕ} {b : Book} → Fine n m b → (v : ℕ) → v < n → Says m (getD (valuesOf n b) v 0) (getD (reasonsOf n b) v 0) (getD (levelsOf n b) v 0)
 unfolding valuesOf reasonsOf levelsOf
-says n m fine-nil v h =
+says {n} fine-nil v h =
     rw (getD-replicate n v unassigned 0 h, getD-replicate n v NONE 0 h)
     (record { value-le = omega arith; reason-good = refl; no-reason = λ e. refl; no-level = λ e. refl })
-says n m (fine-add {c = c} {r = r} {o = o} {b = b} hc g e f) v h = go (ℕ-discrete v (index c)) (says n m f v h)
+says {n} {m} (fine-add {c = c} {r = r} {o = o} {b = b} hc g e f) v h = go (ℕ-discrete v (index c)) (says f v h)
   where
     l : ℕ
     l = presentLevel (entry c r o ∷ b)
@@ -143,8 +143,8 @@ says n m (fine-add {c = c} {r = r} {o = o} {b = b} hc g e f) v h = go (ℕ-discr
         (record { value-le = omega arith; reason-good = g; no-reason = λ q. absurd (omega arith); no-level = λ q. absurd (omega arith) })
     go (no z) ih = rw (getD-set-other (valuesOf n b) (index c) v (polarity c) 0 z, getD-set-other (reasonsOf n b) (index c) v r 0 z, getD-set-other (levelsOf n b) (index c) v l 0 z) ih
 
-pub is-unassigned : (n m : ℕ) {b : Book} → Fine n m b → (v : ℕ) → v < n → isAssigned (valuesOf n b) v ≡ false → getD (valuesOf n b) v 0 ≡ unassigned
-is-unassigned n m {b} f v h e = omega (arith, says n m f v h .value-le, ltb-false (getD (valuesOf n b) v 0) unassigned e)
+pub is-unassigned : {n m : ℕ} {b : Book} → Fine n m b → (v : ℕ) → v < n → isAssigned (valuesOf n b) v ≡ false → getD (valuesOf n b) v 0 ≡ unassigned
+is-unassigned {n} {b = b} f v h e = omega (arith, says f v h .value-le, ltb-false (getD (valuesOf n b) v 0) unassigned e)
 
 -- the number of unassigned variables
 left : List ℕ → ℕ
@@ -166,17 +166,14 @@ unfolding left
 left-replicate zero = refl
 left-replicate (suc n) = omega (arith, left-replicate n)
 
-left-fine : (n m : ℕ) {b : Book} → Fine n m b → left (valuesOf n b) + length b ≡ n
+left-fine : {n m : ℕ} {b : Book} → Fine n m b → left (valuesOf n b) + length b ≡ n
 unfolding valuesOf
-left-fine n m fine-nil = omega (arith, left-replicate n)
-left-fine n m (fine-add {c = c} {b = b} h g e f) = omega (arith, left-fine n m f, left-set (valuesOf n b) (index c) (polarity c) e (omega arith))
+left-fine {n} fine-nil = omega (arith, left-replicate n)
+left-fine {n} (fine-add {c = c} {b = b} h g e f) = omega (arith, left-fine f, left-set (valuesOf n b) (index c) (polarity c) e (omega arith))
 
 -- an unassigned variable leaves room for one more entry
-pub room : (n m : ℕ) {b : Book} → Fine n m b → (v : ℕ) → getD (valuesOf n b) v 0 ≡ unassigned → length b < n
-room n m {b} f v e = omega (arith, left-fine n m f, left-set (valuesOf n b) v 0 e (omega arith))
-
-pub fine-length : (n m : ℕ) {b : Book} → Fine n m b → length b ≤ n
-fine-length n m f = omega (arith, left-fine n m f)
+pub room : {n m : ℕ} {b : Book} → Fine n m b → (v : ℕ) → getD (valuesOf n b) v 0 ≡ unassigned → length b < n
+room {n} {b = b} f v e = omega (arith, left-fine f, left-set (valuesOf n b) v 0 e (omega arith))
 
 -- ---- the book before and after a line, seen from a level below the present one
 

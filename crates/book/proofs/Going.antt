@@ -16,7 +16,7 @@ use Rattle.book.specs.Calls.{Line}
 use Rattle.book.specs.Book.{Entry, entry, Book, presentLevel, back, book, codes, openings, valuesOf, counts}
 use Rattle.book.specs.Chooser.{Chooser}
 use Rattle.book.specs.Session.{Session, offerAll, wentBack}
-use Rattle.book.proofs.Books.{length-openings, length-codes, back-same, Back, back-facts, Fine, fine-add, fine-drop}
+use Rattle.book.proofs.Books.{length-openings, length-codes, back-same, Back, back-facts, Fine, fine-nil, fine-add, fine-drop}
 use Rattle.book.proofs.Memory.{at, part, Holds, Held, set-same, last-is, backstep-held, backsteps-held, close-held, rewind-held}
 
 abbrev pub variable : Entry → ℕ
@@ -39,26 +39,26 @@ newest (suc k) (entry c r o ∷ b) h =
     rw (q, drop-append-le (length b - k) (codes b) (c ∷ []) q2, map-append index, reverse-append) (ap {B = List ℕ} (λ vs. index c ∷ vs) (newest k b (omega arith)))
 
 -- what going back undoes is the variables of the dropped entries
-undone-is : (n l : ℕ) (b : Book) (t : Trail) → l < presentLevel b → Holds n b t → (howMany l t ≡ dropped l b) × (undone l t ≡ map variable (take (dropped l b) b))
+undone-is : {n : ℕ} (l : ℕ) {b : Book} {t : Trail} → l < presentLevel b → Holds n b t → (howMany l t ≡ dropped l b) × (undone l t ≡ map variable (take (dropped l b) b))
 unfolding undone
-undone-is n l b t h g =
+undone-is l {b} {t} h g =
     let f : Back l b (back l b) = back-facts l b h in
     let ln : t .len ≡ length b = g .trail .count ∙ length-codes b in
-    let p : getD (t .opened) l 0 ≡ length b - dropped l b = omega (arith, at n l (omega (arith, g .opened .count, length-openings b)) (g .opened), f .place, f .len) in
+    let p : getD (t .opened) l 0 ≡ length b - dropped l b = omega (arith, at l (omega (arith, g .opened .count, length-openings b)) (g .opened), f .place, f .len) in
     let q : t .len - getD (t .opened) l 0 ≡ dropped l b = omega (arith, f .len) in
-    (q, rw (q, p, part n (length b - dropped l b) (dropped l b) (omega (arith, f .len)) (g .trail)) (newest (dropped l b) b (omega arith)))
+    (q, rw (q, p, part (length b - dropped l b) (dropped l b) (omega (arith, f .len)) (g .trail)) (newest (dropped l b) b (omega arith)))
 
 -- the trail after going back holds the book gone back
-back-holds : (n m l : ℕ) (b : Book) (t : Trail) → Fine n m b → l < presentLevel b → Holds n b t → Holds n (back l b) (backtrackTo l t)
+back-holds : {n m : ℕ} (l : ℕ) {b : Book} (t : Trail) → Fine n m b → l < presentLevel b → Holds n b t → Holds n (back l b) (backtrackTo l t)
 unfolding backtrackTo
-back-holds n m l b t fine h g =
+back-holds {n} l {b} t fine h g =
     let f : Back l b (back l b) = back-facts l b h in
-    let (q, vs) = undone-is n l b t h g in
+    let (q, vs) = undone-is l h g in
     let lo : length (openings b) ≡ presentLevel b = length-openings b in
     let up : l + (t .level - l) ≡ length (openings b) = omega (arith, g .opened .count) in
-    let u : Held n (back l b) (openings b) (backsteps (dropped l b) t) = rw (f .rest) at (backsteps-held n m (dropped l b) b (openings b) t (omega arith) fine g) in
-    let w = close-held (t .level - l) n l (back l b) (openings b) (backsteps (dropped l b) t) (omega arith) (rw (up, take-length) u) in
-    rw (q, f .opens) (rewind-held n (back l b) (take l (openings b)) _ w)
+    let u : Held n (back l b) (openings b) (backsteps (dropped l b) t) = rw (f .rest) at (backsteps-held (dropped l b) t (omega arith) fine g) in
+    let w = close-held (t .level - l) l {n = n} {b = back l b} (openings b) (backsteps (dropped l b) t) (omega arith) (rw (up, take-length) u) in
+    rw (q, f .opens) (rewind-held _ w)
 
 module _ (n m : ℕ) (C : Chooser n m) where
   -- s is a session that the book b fits, and its chooser is good for these switches
@@ -72,13 +72,13 @@ module _ (n m : ℕ) (C : Chooser n m) where
   GoodAfter ls s = Good (book ls) (counts (C .switches) ls) s
 
   -- the chooser is offered the variables of the k newest entries
-  offers : (k : ℕ) (b : Book) (on : ℕ → Bool) (c : C .State) → Fine n m b → C .ok (valuesOf n b) on c → C .ok (valuesOf n (drop k b)) on (offerAll n m C (map variable (take k b)) c)
+  offers : (k : ℕ) {b : Book} {on : ℕ → Bool} (c : C .State) → Fine n m b → C .ok (valuesOf n b) on c → C .ok (valuesOf n (drop k b)) on (offerAll n m C (map variable (take k b)) c)
   unfolding offerAll valuesOf
-  offers zero b on c f q = q
-  offers (suc k) [] on c f q = q
-  offers (suc k) (entry x r o ∷ b) on c (fine-add h g e f) q =
+  offers zero c f q = q
+  offers (suc k) c fine-nil q = q
+  offers (suc k) {on = on} c (fine-add {c = x} {b = b} h g e f) q =
       let q2 : C .ok (valuesOf n b) on (C .offer (index x) c) = rw (set-set, set-same (valuesOf n b) (index x) unassigned e) at (C .offer-ok (index x) c h q) in
-      offers k b on (C .offer (index x) c) f q2
+      offers k (C .offer (index x) c) f q2
 
   pub went : (l : ℕ) {b : Book} {on : ℕ → Bool} (s : Session n m C) → Good b on s → Good (back l b) on (wentBack n m C l s)
   unfolding wentBack
@@ -98,8 +98,8 @@ module _ (n m : ℕ) (C : Chooser n m) where
           let f : Back l b (back l b) = back-facts l b h in
           record {
             fine = rw (f .rest) at (fine-drop (dropped l b) (g .fine));
-            holds = back-holds n m l b (s .trail) (g .fine) h (g .holds);
-            ok = rw (undone-is n l b (s .trail) h (g .holds) .1) (rw (f .rest) at (offers (dropped l b) b on (s .chooser) (g .fine) (g .ok)));
+            holds = back-holds l (s .trail) (g .fine) h (g .holds);
+            ok = rw (undone-is l h (g .holds) .1) (rw (f .rest) at (offers (dropped l b) (s .chooser) (g .fine) (g .ok)));
           }
 
   -- ---- the first loop of `backtrack_to` as the source has it: `backstep`, and at once its variable to `insert`; k times
@@ -107,18 +107,18 @@ module _ (n m : ℕ) (C : Chooser n m) where
   interleaved zero s = s
   interleaved (suc k) s = interleaved k (record { trail = backstep (s .trail); chooser = C .offer (last (s .trail)) (s .chooser) })
 
-  in-turn : (k : ℕ) (b : Book) (ops : List ℕ) (t : Trail) (c : C .State) → k ≤ length b → Fine n m b → Held n b ops t
+  in-turn : (k : ℕ) {b : Book} {ops : List ℕ} (t : Trail) (c : C .State) → k ≤ length b → Fine n m b → Held n b ops t
       → interleaved k (record { trail = t; chooser = c }) ≡ record { trail = backsteps k t; chooser = offerAll n m C (map variable (take k b)) c }
   unfolding interleaved backsteps offerAll
-  in-turn zero b ops t c h f g = refl
-  in-turn (suc k) [] ops t c h f g = absurd (omega arith)
-  in-turn (suc k) (entry x r o ∷ b) ops t c h (fine-add hx hr e f) g =
-      rw (last-is n x r o b ops t g) (in-turn k b ops (backstep t) (C .offer (index x) c) (omega arith) f (backstep-held n m x r o b ops t (fine-add hx hr e f) g))
+  in-turn zero t c h f g = refl
+  in-turn (suc k) t c h fine-nil g = absurd (omega arith)
+  in-turn (suc k) t c h (fine-add {c = x} {r = r} {o = o} hx hr e f) g =
+      rw (last-is t g) (in-turn k (backstep t) (C .offer (index x) c) (omega arith) f (backstep-held t (fine-add {r = r} {o = o} hx hr e f) g))
 
   -- the trail and the chooser may be moved one after the other
-  pub apart : (l : ℕ) (b : Book) (on : ℕ → Bool) (s : Session n m C) → Good b on s → l < s .trail .level
+  pub apart : (l : ℕ) {b : Book} {on : ℕ → Bool} (s : Session n m C) → Good b on s → l < s .trail .level
       → interleaved (howMany l (s .trail)) s ≡ record { trail = backsteps (howMany l (s .trail)) (s .trail); chooser = offerAll n m C (undone l (s .trail)) (s .chooser) }
-  apart l b on s g h =
+  apart l {b} s g h =
       let hb : l < presentLevel b = omega (arith, g .holds .opened .count, length-openings b) in
-      let (q, vs) = undone-is n l b (s .trail) hb (g .holds) in
-      rw (q, vs) (in-turn (dropped l b) b (openings b) (s .trail) (s .chooser) (omega arith) (g .fine) (g .holds))
+      let (q, vs) = undone-is l hb (g .holds) in
+      rw (q, vs) (in-turn (dropped l b) (s .trail) (s .chooser) (omega arith) (g .fine) (g .holds))

@@ -14,7 +14,7 @@ use Rattle.lit.specs.Lits.{index, polarity, new}
 use Rattle.trail.specs.Trail.{Trail, freshTrail, enqAssignment, enqDecision, last, backstep, backsteps, closeLevels, rewind}
 use Rattle.book.specs.Book.{entry, Book, presentLevel, codes, openings, valuesOf, reasonsOf, levelsOf}
 use Rattle.book.specs.Claim.{assignedLevels, recordsOf, recordsIn}
-use Rattle.book.proofs.Books.{level-le, length-openings, length-codes, Fine, fine-add, says, room}
+use Rattle.book.proofs.Books.{level-le, length-openings, length-codes, Fine, fine-nil, fine-add, says, room}
 
 -- ---- of the list l of length n the first k places are in use, and hold xs
 
@@ -23,16 +23,16 @@ pub record Stack (n : ℕ) (xs l : List ℕ) (k : ℕ) : Type 0 where
   pub count : k ≡ length xs
   pub inUse : take k l ≡ xs
 
-push : (n : ℕ) {xs l : List ℕ} {k : ℕ} (x : ℕ) → k < n → Stack n xs l k → Stack n (xs ++ (x ∷ [])) (set l k x) (k + 1)
-push n {xs} {l} {k} x h s = record {
+push : {n : ℕ} {xs l : List ℕ} {k : ℕ} (x : ℕ) → k < n → Stack n xs l k → Stack n (xs ++ (x ∷ [])) (set l k x) (k + 1)
+push {n} {xs} {l} {k} x h s = record {
   long = simp length-set (s .long);
   count = omega (arith, s .count, length-append xs (x ∷ []));
   inUse = rw (add-one k, take-suc-set l k x (omega (arith, s .long)), s .inUse);
 }
 
 -- what is left when the place of the last one is cleared, and the last one itself
-pop : (n : ℕ) {xs l : List ℕ} {k : ℕ} (x : ℕ) → Stack n (xs ++ (x ∷ [])) l k → Stack n xs (set l (k - 1) NONE) (k - 1)
-pop n {xs} {l} {k} x s =
+pop : {n : ℕ} {xs l : List ℕ} {k : ℕ} (x : ℕ) → Stack n (xs ++ (x ∷ [])) l k → Stack n xs (set l (k - 1) NONE) (k - 1)
+pop {n} {xs} {l} {k} x s =
     let q : k ≡ suc (length xs) = omega (arith, s .count, length-append xs (x ∷ [])) in
     let q1 : k - 1 ≡ length xs = omega arith in
     record {
@@ -41,11 +41,11 @@ pop n {xs} {l} {k} x s =
       inUse = take-set-le (k - 1) l (k - 1) NONE (omega arith) ∙ sym (take-take (k - 1) k l (omega arith)) ∙ rw (s .inUse) (take-at xs (x ∷ []) (k - 1) (sym q1));
     }
 
-pub at : (n : ℕ) {xs l : List ℕ} {k : ℕ} (i : ℕ) → i < k → Stack n xs l k → getD l i 0 ≡ getD xs i 0
-at n {xs} {l} {k} i h s = sym (getD-take k l i 0 h) ∙ ap (λ (x : List ℕ). getD x i 0) (s .inUse)
+pub at : {n : ℕ} {xs l : List ℕ} {k : ℕ} (i : ℕ) → i < k → Stack n xs l k → getD l i 0 ≡ getD xs i 0
+at {n} {xs} {l} {k} i h s = sym (getD-take k l i 0 h) ∙ ap (λ (x : List ℕ). getD x i 0) (s .inUse)
 
-pub part : (n : ℕ) {xs l : List ℕ} {k : ℕ} (p j : ℕ) → p + j ≡ k → Stack n xs l k → take j (drop p l) ≡ drop p xs
-part n {xs} {l} {k} p j e s =
+pub part : {n : ℕ} {xs l : List ℕ} {k : ℕ} (p j : ℕ) → p + j ≡ k → Stack n xs l k → take j (drop p l) ≡ drop p xs
+part {n} {xs} {l} {k} p j e s =
     let h : p ≤ length l = omega (arith, s .count, ap length (s .inUse), length-take k l) in
     sym (drop-at (take p l) (take j (drop p l)) p (length-take-le p l h)) ∙ rw (← take-add p j l, e, s .inUse)
 
@@ -85,14 +85,14 @@ fresh-holds n =
     let empty : Stack n [] (replicate n NONE) 0 = record { long = length-replicate n NONE; count = refl; inUse = refl } in
     record { values = refl; reasons = refl; levels = levels-fresh n; trail = empty; opened = empty }
 
-pub enq-holds : (n m code reason : ℕ) (b : Book) (t : Trail) → Fine n m b → index code < n → getD (valuesOf n b) (index code) 0 ≡ unassigned
+pub enq-holds : {n m : ℕ} {b : Book} {t : Trail} (code reason : ℕ) → Fine n m b → index code < n → getD (valuesOf n b) (index code) 0 ≡ unassigned
     → Holds n b t → Holds n (entry code reason false ∷ b) (enqAssignment code reason t)
 unfolding enqAssignment valuesOf reasonsOf levelsOf codes openings presentLevel
-enq-holds n m code reason b t f h e g = record {
+enq-holds {n} {b = b} {t = t} code reason f h e g = record {
   values = rw (g .values);
   reasons = rw (g .reasons);
   levels = rw (levels-set (t .values) (t .levels) (index code) (polarity code) (t .level), lt-ltb (polarity code) unassigned (omega arith), g .levels, g .opened .count, length-openings b);
-  trail = push n code (omega (arith, g .trail .count, length-codes b, room n m f (index code) e)) (g .trail);
+  trail = push code (omega (arith, g .trail .count, length-codes b, room f (index code) e)) (g .trail);
   opened = g .opened;
 }
 
@@ -100,66 +100,66 @@ enq-holds n m code reason b t f h e g = record {
 pub set-same : (l : List ℕ) (i x : ℕ) → getD l i 0 ≡ x → set l i x ≡ l
 set-same l i x e = ap (λ (y : ℕ). set l i y) (sym e) ∙ set-getD l i 0
 
-pub dec-holds : (n m v p : ℕ) (b : Book) (t : Trail) → Fine n m b → v < n → p < 2 → getD (valuesOf n b) v 0 ≡ unassigned
+pub dec-holds : {n m : ℕ} {b : Book} {t : Trail} (v p : ℕ) → Fine n m b → v < n → p < 2 → getD (valuesOf n b) v 0 ≡ unassigned
     → Holds n b t → Holds n (entry (new v p) NONE true ∷ b) (enqDecision v p t)
 unfolding enqDecision valuesOf reasonsOf levelsOf codes openings presentLevel
-dec-holds n m v p b t f h hp e g =
+dec-holds {n} {b = b} {t = t} v p f h hp e g =
     let q1 : new v p / 2 ≡ v = omega arith in
     let q2 : new v p % 2 ≡ p = omega arith in
     let lv : t .level ≡ presentLevel b = g .opened .count ∙ length-openings b in
     let ln : t .len ≡ length b = g .trail .count ∙ length-codes b in
-    let r : length b < n = room n m f v e in
+    let r : length b < n = room f v e in
     record {
       values = rw (q1, q2, g .values);
-      reasons = rw (q1, set-same (reasonsOf n b) v NONE (says n m f v h .no-reason e)) (g .reasons);
+      reasons = rw (q1, set-same (reasonsOf n b) v NONE (says f v h .no-reason e)) (g .reasons);
       levels = rw (q1, levels-set (t .values) (t .levels) v p (t .level + 1), lt-ltb p unassigned hp, g .levels, lv);
-      trail = push n (new v p) (omega arith) (g .trail);
-      opened = rw ln (push n (length b) (omega (arith, level-le b)) (g .opened));
+      trail = push (new v p) (omega arith) (g .trail);
+      opened = rw ln (push (length b) (omega (arith, level-le b)) (g .opened));
     }
 
 -- ---- going back
 
-pub last-is : (n c r : ℕ) (o : Bool) (b : Book) (ops : List ℕ) (t : Trail) → Held n (entry c r o ∷ b) ops t → last t ≡ index c
+pub last-is : {n c r : ℕ} {o : Bool} {b : Book} {ops : List ℕ} (t : Trail) → Held n (entry c r o ∷ b) ops t → last t ≡ index c
 unfolding codes
-last-is n c r o b ops t g =
+last-is {c = c} {b = b} t g =
     let q : length (codes b) ≡ t .len - 1 = omega (arith, g .trail .count, length-append (codes b) (c ∷ [])) in
-    rw (at n (t .len - 1) (omega (arith, g .trail .count, length-append (codes b) (c ∷ []))) (g .trail), getD-at (codes b) c [] 0 (t .len - 1) q)
+    rw (at (t .len - 1) (omega (arith, g .trail .count, length-append (codes b) (c ∷ []))) (g .trail), getD-at (codes b) c [] 0 (t .len - 1) q)
 
-pub backstep-held : (n m c r : ℕ) (o : Bool) (b : Book) (ops : List ℕ) (t : Trail) → Fine n m (entry c r o ∷ b) → Held n (entry c r o ∷ b) ops t → Held n b ops (backstep t)
+pub backstep-held : {n m c r : ℕ} {o : Bool} {b : Book} {ops : List ℕ} (t : Trail) → Fine n m (entry c r o ∷ b) → Held n (entry c r o ∷ b) ops t → Held n b ops (backstep t)
 unfolding backstep valuesOf reasonsOf levelsOf codes
-backstep-held n m c r o b ops t (fine-add h _ e f) g =
-    let v = last-is n c r o b ops t g in
-    let of-c = says n m f (index c) h in
+backstep-held {n} {c = c} {b = b} t (fine-add h _ e f) g =
+    let v = last-is t g in
+    let of-c = says f (index c) h in
     record {
       values = rw (v, g .values, set-set) (set-same (valuesOf n b) (index c) unassigned e);
       reasons = rw (v, g .reasons, set-set) (set-same (reasonsOf n b) (index c) NONE (of-c .no-reason e));
       levels = rw (v, levels-unset (t .values) (t .levels) (index c), g .levels, set-set) (set-same (levelsOf n b) (index c) NONE (of-c .no-level e));
-      trail = pop n c (g .trail);
+      trail = pop c (g .trail);
       opened = g .opened;
     }
 
-pub backsteps-held : (n m k : ℕ) (b : Book) (ops : List ℕ) (t : Trail) → k ≤ length b → Fine n m b → Held n b ops t → Held n (drop k b) ops (backsteps k t)
+pub backsteps-held : {n m : ℕ} (k : ℕ) {b : Book} {ops : List ℕ} (t : Trail) → k ≤ length b → Fine n m b → Held n b ops t → Held n (drop k b) ops (backsteps k t)
 unfolding backsteps
-backsteps-held n m zero b ops t h f g = g
-backsteps-held n m (suc k) [] ops t h f g = absurd (omega arith)
-backsteps-held n m (suc k) (entry c r o ∷ b) ops t h (fine-add hc hr e f) g =
-    backsteps-held n m k b ops (backstep t) (omega arith) f (backstep-held n m c r o b ops t (fine-add hc hr e f) g)
+backsteps-held zero t h f g = g
+backsteps-held (suc k) t h fine-nil g = absurd (omega arith)
+backsteps-held (suc k) t h (fine-add {r = r} {o = o} hc hr e f) g =
+    backsteps-held k (backstep t) (omega arith) f (backstep-held t (fine-add {r = r} {o = o} hc hr e f) g)
 
-pub close-held : (k n j : ℕ) (b : Book) (ops : List ℕ) (t : Trail) → j + k ≤ length ops → Held n b (take (j + k) ops) t → Held n b (take j ops) (closeLevels k t)
+pub close-held : (k j : ℕ) {n : ℕ} {b : Book} (ops : List ℕ) (t : Trail) → j + k ≤ length ops → Held n b (take (j + k) ops) t → Held n b (take j ops) (closeLevels k t)
 unfolding closeLevels
-close-held zero n j b ops t h g =
+close-held zero j ops t h g =
     let q : j + 0 ≡ j = omega arith in
     rw q at g
-close-held (suc k) n j b ops t h g =
+close-held (suc k) j {n} ops t h g =
     let q : j + suc k ≡ suc (j + k) = omega arith in
     let s : Stack n (take (j + k) ops ++ (getD ops (j + k) 0 ∷ [])) (t .opened) (t .level) = rw (q, take-suc ops (j + k) 0 (omega arith)) at (g .opened) in
-    close-held k n j b ops _ (omega arith) (record { values = g .values; reasons = g .reasons; levels = g .levels; trail = g .trail; opened = pop n (getD ops (j + k) 0) s })
+    close-held k j ops _ (omega arith) (record { values = g .values; reasons = g .reasons; levels = g .levels; trail = g .trail; opened = pop (getD ops (j + k) 0) s })
 
-pub rewind-held : (n : ℕ) (b : Book) (ops : List ℕ) (t : Trail) → Held n b ops t → Held n b ops (rewind t)
+pub rewind-held : {n : ℕ} {b : Book} {ops : List ℕ} (t : Trail) → Held n b ops t → Held n b ops (rewind t)
 unfolding rewind
-rewind-held n b ops t g = record { values = g .values; reasons = g .reasons; levels = g .levels; trail = g .trail; opened = g .opened }
+rewind-held t g = record { values = g .values; reasons = g .reasons; levels = g .levels; trail = g .trail; opened = g .opened }
 
 -- the records of the claim are the book's
-pub told : (n : ℕ) {b : Book} {t : Trail} → Holds n b t → recordsOf t ≡ recordsIn n b
+pub told : {n : ℕ} {b : Book} {t : Trail} → Holds n b t → recordsOf t ≡ recordsIn n b
 unfolding recordsOf recordsIn
-told n {b} {t} g = cc (g .trail .inUse, g .trail .count, g .opened .inUse, g .opened .count, length-codes b, length-openings b)
+told {b = b} g = cc (g .trail .inUse, g .trail .count, g .opened .inUse, g .opened .count, length-codes b, length-openings b)

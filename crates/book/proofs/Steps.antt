@@ -52,10 +52,10 @@ module _ (n m : ℕ) (C : Chooser n m) where
       → isAssigned (u .trail .values) (index code) ≡ false → Good n m C (entry code reason false ∷ b) o (enqueued n m C code reason u)
   unfolding enqueued valuesOf
   enqueued-good code reason {b} u g h hr a =
-      let e = is-unassigned n m (g .fine) (index code) h (rw (g .holds .values) at a) in
+      let e = is-unassigned (g .fine) (index code) h (rw (g .holds .values) at a) in
       record {
         fine = fine-add h hr e (g .fine);
-        holds = enq-holds n m code reason b (u .trail) (g .fine) h e (g .holds);
+        holds = enq-holds code reason (g .fine) h e (g .holds);
         ok = C .assign-ok (index code) (polarity code) (u .chooser) h (omega arith) (g .ok);
       }
 
@@ -97,12 +97,12 @@ module _ (n m : ℕ) (C : Chooser n m) where
       where
         go : (x : Next (C .State)) → NextRight n (valuesOf n (book ls)) (counts (C .switches) ls) (C .ok) x → Kept ls s (decide p) (decided n m C p s x)
         go (chose v d) (hv, ho, a, f) =
-            let e = is-unassigned n m (g .fine) v hv a in
+            let e = is-unassigned (g .fine) v hv a in
             let q1 : new v p / 2 ≡ v = omega arith in
             let q2 : new v p % 2 ≡ p = omega arith in
             kept-by refl (decides v p hv hp (rw (g .holds .values) a)) (record {
               fine = fine-add {c = new v p} {b = book ls} (rw q1 hv) refl (rw q1 e) (g .fine);
-              holds = dec-holds n m v p (book ls) (s .trail) (g .fine) hv hp e (g .holds);
+              holds = dec-holds v p (g .fine) hv hp e (g .holds);
               ok = rw (q1, q2) (f p hp);
             })
         go (nothing d) (_, q) = kept-by refl stays (with-good d q)
@@ -139,6 +139,6 @@ module _ (n m : ℕ) (C : Chooser n m) where
     kept (goBack l) = kept-by refl (went-moves l s) (went n m C l s g)
     kept (bumpReason v) =
         needed _ _ refl (λ h.
-        let r = says n m (g .fine) v (ltb-true v n h) .reason-good in
+        let r = says (g .fine) v (ltb-true v n h) .reason-good in
         tune-kept (bumpReasonLiterals (getD (s .trail .reasons) v 0)) (rw (g .holds .reasons) r) refl refl)
     kept (group vs) = needed _ _ refl (λ h. tune-kept (bumpVecOfVars vs) h refl refl)

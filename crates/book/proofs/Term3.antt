@@ -84,7 +84,7 @@ module _ (n m : ℕ) (C : Chooser n m) where
   unfolding Stood
   as-then s past g ms l h =
       let (t, j, k) = find n l past ms (omega (arith, g .holds .opened .count, length-openings (book (log past)))) in
-      (t, j, told n (went n m C l s g .holds) ∙ sym k)
+      (t, j, told (went n m C l s g .holds) ∙ sym k)
 
   unit-after : (s : Session n m C) (code : ℕ) → eqb (status (call n m C s (learnUnit code))) 0 ≡ true
       → (leaves s (call n m C s (learnUnit code))) .trail ≡ enqAssignment code NONE ((wentBack n m C 0 s) .trail)
@@ -110,7 +110,7 @@ module _ (n m : ℕ) (C : Chooser n m) where
   began = record {
     good = record { fine = fine-nil; holds = fresh-holds n; ok = rw (counts-nil (C .switches)) (C .start-ok) };
     moments = tt;
-    claim = record { told = told n (fresh-holds n); noneRight = tt; backRight = tt; unitRight = tt };
+    claim = record { told = told (fresh-holds n); noneRight = tt; backRight = tt; unitRight = tt };
   }
 
   pub stepped : (r : Run n m C) (c : Call) → Inv r → Inv (step n m C r c)
@@ -120,9 +120,9 @@ module _ (n m : ℕ) (C : Chooser n m) where
       let k : Kept n m C (log (r .past)) s c (call n m C s c) = kept n m C s (log (r .past)) (i .good) c in
       record {
         good = k .good;
-        moments = ((told n (i .good .holds), told n (k .good .holds)), i .moments);
+        moments = ((told (i .good .holds), told (k .good .holds)), i .moments);
         claim = record {
-          told = told n (k .good .holds);
+          told = told (k .good .holds);
           noneRight = ((λ p e a. rw e (none-right s (log (r .past)) (i .good) p (rw e at a))), i .claim .noneRight);
           backRight = ((λ l e a h. rw e (unfold call in (as-then s (r .past) (i .good) (i .moments) l h))), i .claim .backRight);
           unitRight = (
