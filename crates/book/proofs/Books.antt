@@ -27,13 +27,13 @@ level-le (entry c r false ∷ b) = omega (arith, level-le b)
 pub length-openings : (b : Book) → length (openings b) ≡ presentLevel b
 unfolding presentLevel openings
 length-openings [] = refl
-length-openings (entry c r true ∷ b) = omega (arith, length-append (openings b) (length b ∷ []), length-openings b)
+length-openings (entry c r true ∷ b) = simp length-append (omega (arith, length-openings b))
 length-openings (entry c r false ∷ b) = length-openings b
 
 pub length-codes : (b : Book) → length (codes b) ≡ length b
 unfolding codes
 length-codes [] = refl
-length-codes (entry c r o ∷ b) = omega (arith, length-append (codes b) (c ∷ []), length-codes b)
+length-codes (entry c r o ∷ b) = simp length-append (omega (arith, length-codes b))
 
 pub back-same : (l : ℕ) (b : Book) → presentLevel b ≤ l → back l b ≡ b
 unfolding back
@@ -66,10 +66,10 @@ back-more l c r true b k h f =
     let q : l < length (openings b) = rw (length-openings b) h in
     record {
       len = omega arith;
-      place = List·getD-append (openings b) (length b ∷ []) 0 l q ∙ f .place;
+      place = List·getD-append (openings b) _ 0 l q ∙ f .place;
       rest = drop-more (entry c r true) b (length k) (f .len) ∙ f .rest;
       lev = f .lev;
-      opens = f .opens ∙ sym (take-append-le l (openings b) (length b ∷ []) (omega arith));
+      opens = f .opens ∙ sym (take-append-le l (openings b) _ (omega arith));
     }
 
 -- where the newest entry is the one that raised the level from l, only it goes
@@ -129,19 +129,16 @@ unfolding valuesOf reasonsOf levelsOf
 says {n} fine-nil v h =
     rw (getD-replicate n v unassigned 0 h, getD-replicate n v NONE 0 h)
     (record { value-le = omega arith; reason-good = refl; no-reason = λ e. refl; no-level = λ e. refl })
-says {n} {m} (fine-add {c = c} {r = r} {o = o} {b = b} hc g e f) v h = go (ℕ-discrete v (index c)) (says f v h)
+says {n} {m} (fine-add {c = c} {r = r} {o = o} {b = b} hc g e f) v h = go _ (ℕ-discrete v (index c)) (says f v h)
   where
-    l : ℕ
-    l = presentLevel (entry c r o ∷ b)
-
-    go : Dec (v ≡ index c) → Says m (getD (valuesOf n b) v 0) (getD (reasonsOf n b) v 0) (getD (levelsOf n b) v 0)
+    go : (l : ℕ) → Dec (v ≡ index c) → Says m (getD (valuesOf n b) v 0) (getD (reasonsOf n b) v 0) (getD (levelsOf n b) v 0)
         → Says m (getD (set (valuesOf n b) (index c) (polarity c)) v 0) (getD (set (reasonsOf n b) (index c) r) v 0) (getD (set (levelsOf n b) (index c) l) v 0)
-    go (yes z) ih =
+    go l (yes z) ih =
         let hv : index c < length (valuesOf n b) = rw (length-values n b) hc in
         let hr : index c < length (reasonsOf n b) = rw (length-reasons n b) hc in
         rw (z, getD-set-same (valuesOf n b) (index c) (polarity c) 0 hv, getD-set-same (reasonsOf n b) (index c) r 0 hr)
         (record { value-le = omega arith; reason-good = g; no-reason = λ q. absurd (omega arith); no-level = λ q. absurd (omega arith) })
-    go (no z) ih = rw (getD-set-other (valuesOf n b) (index c) v (polarity c) 0 z, getD-set-other (reasonsOf n b) (index c) v r 0 z, getD-set-other (levelsOf n b) (index c) v l 0 z) ih
+    go l (no z) ih = rw (getD-set-other (valuesOf n b) (index c) v (polarity c) 0 z, getD-set-other (reasonsOf n b) (index c) v r 0 z, getD-set-other (levelsOf n b) (index c) v l 0 z) ih
 
 pub is-unassigned : {n m : ℕ} {b : Book} → Fine n m b → (v : ℕ) → v < n → isAssigned (valuesOf n b) v ≡ false → getD (valuesOf n b) v 0 ≡ unassigned
 is-unassigned {n} {b = b} f v h e = omega (arith, says f v h .value-le, ltb-false (getD (valuesOf n b) v 0) unassigned e)

@@ -29,8 +29,8 @@ pub data Moves (n m : ℕ) (t : Trail) : Trail → Type 0 where
       → Moves n m t (enqAssignment code reason u)
 
 -- the switches that count after a line that switches nothing off, and after one that does
-counts-same : (sw : Bool) (l : Line) (ls : List Line) → cond (accepted l) (switched (l .call) (on ls)) (on ls) ≡ on ls → counts sw (l ∷ ls) ≡ counts sw ls
-unfolding counts on
+counts-same : (sw : Bool) (l : Line) (ls : List Line) → on (l ∷ ls) ≡ on ls → counts sw (l ∷ ls) ≡ counts sw ls
+unfolding counts
 counts-same true l ls e = e
 counts-same false l ls e = refl
 
@@ -61,7 +61,7 @@ module _ (n m : ℕ) (C : Chooser n m) where
 
   module _ (s : Session n m C) (ls : List Line) (g : GoodAfter n m C ls s) where
     refused : {c : Call} (k : ℕ) → eqb k 0 ≡ false → Kept ls s c (refuse k)
-    unfolding book
+    unfolding book on
     refused {c} k e = record { good = rw (counts-same (C .switches) (record { call = c; status = k; reply = none }) ls (rw e), e) g; moves = stays }
 
     needed : {c : Call} (k : ℕ) (t : Bool) {x : Result (Session n m C)} → eqb k 0 ≡ false → (t ≡ true → Kept ls s c x) → Kept ls s c (need t k x)
@@ -72,7 +72,7 @@ module _ (n m : ℕ) (C : Chooser n m) where
     -- an accepted call that switches nothing off
     kept-by : {c : Call} {r : Option ℕ} {u : Session n m C} → switched c (on ls) ≡ on ls → Moves n m (s .trail) (u .trail)
         → Good n m C (written c r (book ls)) (counts (C .switches) ls) u → Kept ls s c (done r u)
-    unfolding book
+    unfolding book on
     kept-by {c} {r} e mv q = record { good = rw (counts-same (C .switches) (record { call = c; status = 0; reply = r }) ls e) q; moves = mv }
 
     with-good : {o : ℕ → Bool} (c : C .State) → C .ok (valuesOf n (book ls)) o c → Good n m C (book ls) o (withChooser n m C c s)
