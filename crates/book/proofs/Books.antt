@@ -100,7 +100,8 @@ back-facts l (entry c r o ∷ b) h = rw (back-over l (entry c r o) b h) (go (dec
 
 pub data Fine (n m : ℕ) : Book → Type 0 where
   fine-nil : Fine n m []
-  fine-add : {c r : ℕ} {o : Bool} {b : Book} → index c < n → goodReason m r ≡ true → getD (valuesOf n b) (index c) 0 ≡ unassigned → Fine n m b → Fine n m (entry c r o ∷ b)
+  fine-add : {c r : ℕ} {o : Bool} {b : Book} → index c < n → goodReason m r ≡ true → getD (valuesOf n b) (index c) 0 ≡ unassigned → Fine n m b
+      → Fine n m (entry c r o ∷ b)
 
 pub fine-drop : {n m : ℕ} (k : ℕ) {b : Book} → Fine n m b → Fine n m (drop k b)
 fine-drop zero f = f
@@ -138,7 +139,9 @@ says {n} {m} (fine-add {c = c} {r = r} {o = o} {b = b} hc g e f) v h = go _ (ℕ
         let hr : index c < length (reasonsOf n b) = rw (length-reasons n b) hc in
         rw (z, getD-set-same (valuesOf n b) (index c) (polarity c) 0 hv, getD-set-same (reasonsOf n b) (index c) r 0 hr)
         (record { value-le = omega arith; reason-good = g; no-reason = λ q. absurd (omega arith); no-level = λ q. absurd (omega arith) })
-    go l (no z) ih = rw (getD-set-other (valuesOf n b) (index c) v (polarity c) 0 z, getD-set-other (reasonsOf n b) (index c) v r 0 z, getD-set-other (levelsOf n b) (index c) v l 0 z) ih
+    go l (no z) ih =
+        rw (getD-set-other (valuesOf n b) (index c) v (polarity c) 0 z, getD-set-other (reasonsOf n b) (index c) v r 0 z) (
+        rw (getD-set-other (levelsOf n b) (index c) v l 0 z) ih)
 
 pub is-unassigned : {n m : ℕ} {b : Book} → Fine n m b → (v : ℕ) → v < n → isAssigned (valuesOf n b) v ≡ false → getD (valuesOf n b) v 0 ≡ unassigned
 is-unassigned {n} {b = b} f v h e = omega (arith, says f v h .value-le, ltb-false (getD (valuesOf n b) v 0) unassigned e)
@@ -217,4 +220,6 @@ seen-written l (group vs) r b h = over h refl
 
 pub seen : (l : ℕ) (x : Line) (ls : List Line) → l < presentLevel (book (x ∷ ls)) → Seen l (x .call) (book ls) (book (x ∷ ls))
 unfolding book
-seen l x ls = cond-elim (λ b. l < presentLevel b → Seen l (x .call) (book ls) b) (accepted x) (λ a. seen-written l (x .call) (x .reply) (book ls)) (λ a h. over h refl)
+seen l x ls =
+    cond-elim (λ b. l < presentLevel b → Seen l (x .call) (book ls) b) (accepted x)
+    (λ a. seen-written l (x .call) (x .reply) (book ls)) (λ a h. over h refl)

@@ -36,15 +36,18 @@ newest (suc k) [] h = absurd (omega arith)
 newest (suc k) (entry c r o ∷ b) h =
     let q : suc (length b) - suc k ≡ length b - k = omega arith in
     let q2 : length b - k ≤ length (codes b) = omega (arith, length-codes b) in
-    rw (q, drop-append-le (length b - k) (codes b) (c ∷ []) q2, map-append index, reverse-append) (ap {B = List ℕ} (λ vs. index c ∷ vs) (newest k b (omega arith)))
+    rw (q, drop-append-le (length b - k) (codes b) (c ∷ []) q2, map-append index, reverse-append)
+    (ap {B = List ℕ} (λ vs. index c ∷ vs) (newest k b (omega arith)))
 
 -- what going back undoes is the variables of the dropped entries
-undone-is : {n : ℕ} (l : ℕ) {b : Book} {t : Trail} → l < presentLevel b → Holds n b t → (howMany l t ≡ dropped l b) × (undone l t ≡ map variable (take (dropped l b) b))
+undone-is : {n : ℕ} (l : ℕ) {b : Book} {t : Trail} → l < presentLevel b → Holds n b t
+    → (howMany l t ≡ dropped l b) × (undone l t ≡ map variable (take (dropped l b) b))
 unfolding undone
 undone-is l {b} {t} h g =
     let f : Back l b (back l b) = back-facts l b h in
     let ln : t .len ≡ length b = g .trail .count ∙ length-codes b in
-    let p : getD (t .opened) l 0 ≡ length b - dropped l b = omega (arith, at l (omega (arith, g .opened .count, length-openings b)) (g .opened), f .place, f .len) in
+    let hl : l < t .level = omega (arith, g .opened .count, length-openings b) in
+    let p : getD (t .opened) l 0 ≡ length b - dropped l b = omega (arith, at l hl (g .opened), f .place, f .len) in
     let q : t .len - getD (t .opened) l 0 ≡ dropped l b = omega (arith, f .len) in
     (q, rw (q, p, part (length b - dropped l b) (dropped l b) (omega (arith, f .len)) (g .trail)) (newest (dropped l b) b (omega arith)))
 
@@ -61,24 +64,24 @@ back-holds {n} l {b} t fine h g =
     rw (q, f .opens) (rewind-held _ w)
 
 module _ (n m : ℕ) (C : Chooser n m) where
-  -- s is a session that the book b fits, and its chooser is good for these switches
+  -- a session that the book b fits, its chooser good for these switches
   pub record Good (b : Book) (on : ℕ → Bool) (s : Session n m C) : Type 0 where
     pub fine : Fine n m b
     pub holds : Holds n b (s .trail)
     pub ok : C .ok (valuesOf n b) on (s .chooser)
 
-  -- it is what the calls of a log may leave
+  -- a session that the calls of a log may leave
   abbrev pub GoodAfter : List Line → Session n m C → Type 0
   GoodAfter ls s = Good (book ls) (counts (C .switches) ls) s
 
   -- the chooser is offered the variables of the k newest entries
-  offers : (k : ℕ) {b : Book} {on : ℕ → Bool} (c : C .State) → Fine n m b → C .ok (valuesOf n b) on c → C .ok (valuesOf n (drop k b)) on (offerAll n m C (map variable (take k b)) c)
+  offers : (k : ℕ) {b : Book} {on : ℕ → Bool} (c : C .State) → Fine n m b → C .ok (valuesOf n b) on c
+      → C .ok (valuesOf n (drop k b)) on (offerAll n m C (map variable (take k b)) c)
   unfolding offerAll valuesOf
   offers zero c f q = q
   offers (suc k) c fine-nil q = q
-  offers (suc k) {on = on} c (fine-add {c = x} {b = b} h g e f) q =
-      let q2 : C .ok (valuesOf n b) on (C .offer (index x) c) = rw (set-set, set-same (valuesOf n b) (index x) unassigned e) at (C .offer-ok (index x) c h q) in
-      offers k (C .offer (index x) c) f q2
+  offers (suc k) c (fine-add {c = x} {b = b} h g e f) q =
+      offers k (C .offer (index x) c) f (rw (set-set, set-same (valuesOf n b) (index x) unassigned e) at (C .offer-ok (index x) c h q))
 
   pub went : (l : ℕ) {b : Book} {on : ℕ → Bool} (s : Session n m C) → Good b on s → Good (back l b) on (wentBack n m C l s)
   unfolding wentBack
@@ -92,7 +95,8 @@ module _ (n m : ℕ) (C : Chooser n m) where
           let h : presentLevel b ≤ l = omega (arith, present, ltb-false l (s .trail .level) e) in
           rw (back-same l b h) g
 
-      down : ltb l (s .trail .level) ≡ true → Good (back l b) on (record { trail = backtrackTo l (s .trail); chooser = offerAll n m C (undone l (s .trail)) (s .chooser) })
+      down : ltb l (s .trail .level) ≡ true
+          → Good (back l b) on (record { trail = backtrackTo l (s .trail); chooser = offerAll n m C (undone l (s .trail)) (s .chooser) })
       down e =
           let h : l < presentLevel b = omega (arith, present, ltb-true l (s .trail .level) e) in
           let f : Back l b (back l b) = back-facts l b h in
@@ -117,7 +121,8 @@ module _ (n m : ℕ) (C : Chooser n m) where
 
   -- the trail and the chooser may be moved one after the other
   pub apart : (l : ℕ) {b : Book} {on : ℕ → Bool} (s : Session n m C) → Good b on s → l < s .trail .level
-      → interleaved (howMany l (s .trail)) s ≡ record { trail = backsteps (howMany l (s .trail)) (s .trail); chooser = offerAll n m C (undone l (s .trail)) (s .chooser) }
+      → interleaved (howMany l (s .trail)) s
+      ≡ record { trail = backsteps (howMany l (s .trail)) (s .trail); chooser = offerAll n m C (undone l (s .trail)) (s .chooser) }
   apart l {b} s g h =
       let hb : l < presentLevel b = omega (arith, g .holds .opened .count, length-openings b) in
       let (q, vs) = undone-is l hb (g .holds) in
