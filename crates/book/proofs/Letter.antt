@@ -68,7 +68,9 @@ back-by-the-letter l [] = unfold keep back in refl
 back-by-the-letter l (e ∷ b) = go (decLt l (presentLevel (e ∷ b))) (back-by-the-letter l b)
   where
     go : Dec (l < presentLevel (e ∷ b)) → reverse (back l b) ≡ keep l (reverse b) → reverse (back l (e ∷ b)) ≡ keep l (reverse (e ∷ b))
-    go (yes h) ih = rw (back-over l e b h, ih, reverse-cons) (sym (keep-over l (reverse b) e (omega (arith, level-snoc (reverse b) e, level-cons e b, level-oldest b))))
+    go (yes h) ih =
+        let hl : l < presentLevel (reverse b ++ (e ∷ [])) = omega (arith, level-snoc (reverse b) e, level-cons e b, level-oldest b) in
+        rw (back-over l e b h, ih, reverse-cons) (sym (keep-over l (reverse b) e hl))
     go (no h) ih = rw (back-same l (e ∷ b) (omega arith)) (sym (keep-all l (reverse (e ∷ b)) (omega (arith, level-oldest (e ∷ b)))))
 
 pub codes-by-the-letter : (b : Book) → codes b ≡ map code (reverse b)
@@ -85,7 +87,8 @@ places-snoc i k (entry c r false ∷ es) e q = places-snoc (i + 1) k es e (omega
 pub openings-by-the-letter : (b : Book) → openings b ≡ places 0 (reverse b)
 unfolding openings places
 openings-by-the-letter [] = refl
-openings-by-the-letter (entry c r o ∷ b) = rw (reverse-cons, places-snoc 0 (length b) (reverse b) (entry c r o) (omega (arith, length-reverse b)), ← openings-by-the-letter b) (go o)
+openings-by-the-letter (entry c r o ∷ b) =
+    rw (reverse-cons, places-snoc 0 (length b) (reverse b) (entry c r o) (omega (arith, length-reverse b)), ← openings-by-the-letter b) (go o)
   where
     go : (o : Bool) → openings (entry c r o ∷ b) ≡ openings b ++ places (length b) (entry c r o ∷ [])
     go true = refl

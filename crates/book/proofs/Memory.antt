@@ -30,7 +30,7 @@ push {n} {xs} {l} {k} x h s = record {
   inUse = rw (add-one k, take-suc-set l k x (omega (arith, s .long)), s .inUse);
 }
 
--- what is left when the place of the last one is cleared, and the last one itself
+-- the last one goes, and its place holds NONE
 pop : {n : ℕ} {xs l : List ℕ} {k : ℕ} (x : ℕ) → Stack n (xs ++ (x ∷ [])) l k → Stack n xs (set l (k - 1) NONE) (k - 1)
 pop {n} {xs} {l} {k} x s =
     let q : k ≡ suc (length xs) = omega (arith, s .count, length-append xs (x ∷ [])) in
@@ -38,9 +38,10 @@ pop {n} {xs} {l} {k} x s =
     record {
       long = simp length-set (s .long);
       count = q1;
-      inUse = take-set-le (k - 1) l (k - 1) NONE (omega arith) ∙ sym (take-take (k - 1) k l (omega arith)) ∙ rw (s .inUse) (take-at xs (x ∷ []) (k - 1) (sym q1));
+      inUse = rw (take-set-le (k - 1) l (k - 1) NONE (omega arith), ← take-take (k - 1) k l (omega arith), s .inUse) (take-at xs (x ∷ []) (k - 1) (sym q1));
     }
 
+-- one of them, and those from p on
 pub at : {n : ℕ} {xs l : List ℕ} {k : ℕ} (i : ℕ) → i < k → Stack n xs l k → getD l i 0 ≡ getD xs i 0
 at {n} {xs} {l} {k} i h s = sym (getD-take k l i 0 h) ∙ ap (λ (x : List ℕ). getD x i 0) (s .inUse)
 
@@ -60,7 +61,8 @@ levels-set (x ∷ xs) (y ∷ ys) zero p l = refl
 levels-set (x ∷ xs) (y ∷ ys) (suc v) p l = ap {B = List ℕ} (λ zs. cond (ltb x unassigned) y NONE ∷ zs) (levels-set xs ys v p l)
 
 levels-unset : (vs ls : List ℕ) (v : ℕ) → assignedLevels (set vs v unassigned) ls ≡ set (assignedLevels vs ls) v NONE
-levels-unset vs ls v = ap (λ (x : List ℕ). assignedLevels (set vs v unassigned) x) (sym (set-getD ls v 0)) ∙ levels-set vs ls v unassigned (getD ls v 0)
+levels-unset vs ls v =
+    ap (λ (x : List ℕ). assignedLevels (set vs v unassigned) x) (sym (set-getD ls v 0)) ∙ levels-set vs ls v unassigned (getD ls v 0)
 
 levels-fresh : (n : ℕ) → assignedLevels (replicate n unassigned) (replicate n NONE) ≡ replicate n NONE
 unfolding assignedLevels
@@ -85,16 +87,19 @@ fresh-holds n =
     let empty : Stack n [] (replicate n NONE) 0 = record { long = length-replicate n NONE; count = refl; inUse = refl } in
     record { values = refl; reasons = refl; levels = levels-fresh n; trail = empty; opened = empty }
 
-pub enq-holds : {n m : ℕ} {b : Book} {t : Trail} (code reason : ℕ) → Fine n m b → index code < n → getD (valuesOf n b) (index code) 0 ≡ unassigned
+pub enq-holds : {n m : ℕ} {b : Book} {t : Trail} (code reason : ℕ) → Fine n m b → getD (valuesOf n b) (index code) 0 ≡ unassigned
     → Holds n b t → Holds n (entry code reason false ∷ b) (enqAssignment code reason t)
 unfolding enqAssignment valuesOf reasonsOf levelsOf codes openings presentLevel
-enq-holds {n} {b = b} {t = t} code reason f h e g = record {
-  values = rw (g .values);
-  reasons = rw (g .reasons);
-  levels = rw (levels-set (t .values) (t .levels) (index code) (polarity code) (t .level), lt-ltb (polarity code) unassigned (omega arith), g .levels, g .opened .count, length-openings b);
-  trail = push code (omega (arith, g .trail .count, length-codes b, room f (index code) e)) (g .trail);
-  opened = g .opened;
-}
+enq-holds {b = b} {t = t} code reason f e g =
+    let lv : t .level ≡ presentLevel b = g .opened .count ∙ length-openings b in
+    let small : ltb (polarity code) unassigned ≡ true = lt-ltb (polarity code) unassigned (omega arith) in
+    record {
+      values = rw (g .values);
+      reasons = rw (g .reasons);
+      levels = rw (levels-set (t .values) (t .levels) (index code) (polarity code) (t .level), small, g .levels, lv);
+      trail = push code (omega (arith, g .trail .count, length-codes b, room f (index code) e)) (g .trail);
+      opened = g .opened;
+    }
 
 -- storing what stands there
 pub set-same : (l : List ℕ) (i x : ℕ) → getD l i 0 ≡ x → set l i x ≡ l
@@ -122,10 +127,11 @@ dec-holds {n} {b = b} {t = t} v p f h hp e g =
 pub last-is : {n c r : ℕ} {o : Bool} {b : Book} {ops : List ℕ} (t : Trail) → Held n (entry c r o ∷ b) ops t → last t ≡ index c
 unfolding codes
 last-is {c = c} {b = b} t g =
-    let q : length (codes b) ≡ t .len - 1 = omega (arith, g .trail .count, length-append (codes b) (c ∷ [])) in
-    rw (at (t .len - 1) (omega (arith, g .trail .count, length-append (codes b) (c ∷ []))) (g .trail), getD-at (codes b) c [] 0 (t .len - 1) q)
+    let q : t .len ≡ suc (length (codes b)) = omega (arith, g .trail .count, length-append (codes b) (c ∷ [])) in
+    rw (at (t .len - 1) (omega arith) (g .trail), getD-at (codes b) c [] 0 (t .len - 1) (omega arith))
 
-pub backstep-held : {n m c r : ℕ} {o : Bool} {b : Book} {ops : List ℕ} (t : Trail) → Fine n m (entry c r o ∷ b) → Held n (entry c r o ∷ b) ops t → Held n b ops (backstep t)
+pub backstep-held : {n m c r : ℕ} {o : Bool} {b : Book} {ops : List ℕ} (t : Trail) → Fine n m (entry c r o ∷ b) → Held n (entry c r o ∷ b) ops t
+    → Held n b ops (backstep t)
 unfolding backstep valuesOf reasonsOf levelsOf codes
 backstep-held {n} {c = c} {b = b} t (fine-add h _ e f) g =
     let v = last-is t g in
@@ -138,22 +144,26 @@ backstep-held {n} {c = c} {b = b} t (fine-add h _ e f) g =
       opened = g .opened;
     }
 
-pub backsteps-held : {n m : ℕ} (k : ℕ) {b : Book} {ops : List ℕ} (t : Trail) → k ≤ length b → Fine n m b → Held n b ops t → Held n (drop k b) ops (backsteps k t)
+pub backsteps-held : {n m : ℕ} (k : ℕ) {b : Book} {ops : List ℕ} (t : Trail) → k ≤ length b → Fine n m b → Held n b ops t
+    → Held n (drop k b) ops (backsteps k t)
 unfolding backsteps
 backsteps-held zero t h f g = g
 backsteps-held (suc k) t h fine-nil g = absurd (omega arith)
 backsteps-held (suc k) t h (fine-add {r = r} {o = o} hc hr e f) g =
     backsteps-held k (backstep t) (omega arith) f (backstep-held t (fine-add {r = r} {o = o} hc hr e f) g)
 
-pub close-held : (k j : ℕ) {n : ℕ} {b : Book} (ops : List ℕ) (t : Trail) → j + k ≤ length ops → Held n b (take (j + k) ops) t → Held n b (take j ops) (closeLevels k t)
+pub close-held : (k j : ℕ) {n : ℕ} {b : Book} (ops : List ℕ) (t : Trail) → j + k ≤ length ops → Held n b (take (j + k) ops) t
+    → Held n b (take j ops) (closeLevels k t)
 unfolding closeLevels
 close-held zero j ops t h g =
     let q : j + 0 ≡ j = omega arith in
     rw q at g
 close-held (suc k) j {n} ops t h g =
     let q : j + suc k ≡ suc (j + k) = omega arith in
-    let s : Stack n (take (j + k) ops ++ (getD ops (j + k) 0 ∷ [])) (t .opened) (t .level) = rw (q, take-suc ops (j + k) 0 (omega arith)) at (g .opened) in
-    close-held k j ops _ (omega arith) (record { values = g .values; reasons = g .reasons; levels = g .levels; trail = g .trail; opened = pop (getD ops (j + k) 0) s })
+    let s : Stack n (take (j + k) ops ++ (getD ops (j + k) 0 ∷ [])) (t .opened) (t .level)
+    = rw (q, take-suc ops (j + k) 0 (omega arith)) at (g .opened) in
+    close-held k j ops _ (omega arith)
+    (record { values = g .values; reasons = g .reasons; levels = g .levels; trail = g .trail; opened = pop (getD ops (j + k) 0) s })
 
 pub rewind-held : {n : ℕ} {b : Book} {ops : List ℕ} (t : Trail) → Held n b ops t → Held n b ops (rewind t)
 unfolding rewind

@@ -57,7 +57,8 @@ searched c none (some w) = stuck
 abbrev Ok : ℕ → List ℕ → (ℕ → Bool) → State → Type 0
 Ok n values on (k, f) = (k ≤ n) × ((v : ℕ) → v < n → f v ≡ on v)
 
-right : (n : ℕ) (c : State) (values : List ℕ) (on : ℕ → Bool) → Ok n values on c → (x y : Option ℕ) → Found (free (c .1) values) (c .0) x → Found (free (c .1) values) n y
+right : (n : ℕ) (c : State) (values : List ℕ) (on : ℕ → Bool) → Ok n values on c → (x y : Option ℕ)
+    → Found (free (c .1) values) (c .0) x → Found (free (c .1) values) n y
     → NextRight n values on (Ok n) (searched c x y)
 unfolding searched
 right n (k, f) values on (h, q) (some v) y (hv, e) g =
@@ -67,7 +68,8 @@ right n (k, f) values on (h, q) none none e g = ((λ v hv o. not-false (isAssign
 right n (k, f) values on (h, q) none (some w) e (hw, g) =
     λ settled. false≢true (sym (not-true (isAssigned values w) (and-right (f w) _ g)) ∙ settled w hw (sym (q w hw) ∙ and-left (f w) _ g))
 
-off-right : (n v : ℕ) (switches : Bool) (f on : ℕ → Bool) → ((w : ℕ) → w < n → f w ≡ on w) → (w : ℕ) → w < n → (cond switches (without v f) f) w ≡ (cond switches (without v on) on) w
+off-right : (n v : ℕ) (switches : Bool) (f on : ℕ → Bool) → ((w : ℕ) → w < n → f w ≡ on w)
+    → (w : ℕ) → w < n → (cond switches (without v f) f) w ≡ (cond switches (without v on) on) w
 off-right n v true f on q w h = ap (λ (x : Bool). cond (eqb w v) false x) (q w h)
 off-right n v false f on q w h = q w h
 

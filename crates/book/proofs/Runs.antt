@@ -16,7 +16,8 @@ pub record Lasting (n m : ℕ) (P : Trail → Type 0) : Type 0 where
   pub at-first : P (freshTrail n)
   pub back-to : (l : ℕ) (t : Trail) → l < t .level → P t → P (backtrackTo l t)
   pub decision : (v p : ℕ) (t : Trail) → v < n → p < 2 → isAssigned (t .values) v ≡ false → P t → P (enqDecision v p t)
-  pub assignment : (code reason : ℕ) (t : Trail) → index code < n → goodReason m reason ≡ true → isAssigned (t .values) (index code) ≡ false → P t → P (enqAssignment code reason t)
+  pub assignment : (code reason : ℕ) (t : Trail) → index code < n → goodReason m reason ≡ true → isAssigned (t .values) (index code) ≡ false → P t
+      → P (enqAssignment code reason t)
 
 module _ (n m : ℕ) (C : Chooser n m) (P : Trail → Type 0) (k : Lasting n m P) where
   lasts : {t u : Trail} → Moves n m t u → P t → P u

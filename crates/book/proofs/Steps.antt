@@ -3,7 +3,7 @@ use Prim.Native.Nat.{ℕ, _/_, _%_, _<_}
 use mathlib.Core.Path.{_≡_, refl, sym, subst}
 use mathlib.Core.Bool.{Bool, true, false, cond}
 use mathlib.Core.Option.{Option, none, some}
-use mathlib.Core.List.{List, _∷_}
+use mathlib.Core.List.{List, [], _∷_}
 use native.Mathlib.Omega.{arith}
 use lib.ListN.{getD}
 use lib.Dec.{ltb, eqb}
@@ -12,7 +12,7 @@ use Rattle.laws.specs.Tests.{cond-elim}
 use Rattle.lit.specs.Numbers.{NONE, largeStep, pastOpen}
 use Rattle.lit.specs.Lits.{index, polarity, new, isAssigned}
 use Rattle.trail.specs.Trail.{Trail, enqAssignment, enqDecision, backtrackTo}
-use Rattle.book.specs.Calls.{Call, bump, decay, setDecay, insert, switchOff, decide, enqueue, learnUnit, goBack, bumpReason, group, Line, accepted}
+use Rattle.book.specs.Calls.{Call, bump, decay, setDecay, insert, switchOff, decide, enqueue, learnUnit, goBack, bumpReason, group, Line}
 use Rattle.book.specs.Book.{entry, Book, written, book, valuesOf, without, switched, on, counts}
 use Rattle.book.specs.Chooser.{Tune, bumpVariable, decayVarInc, setVarDecay, bumpReasonLiterals, bumpVecOfVars, goodReason, fits, Next, chose, nothing, stuck, NextRight, IfSome, Chooser}
 use Rattle.book.specs.Session.{Result, done, refuse, status, reply, leaves, need, Session, wentBack, enqueued, withChooser, tuned, decided, call}
@@ -28,13 +28,19 @@ pub data Moves (n m : ℕ) (t : Trail) : Trail → Type 0 where
   assigns : (code reason : ℕ) {u : Trail} → index code < n → goodReason m reason ≡ true → isAssigned (u .values) (index code) ≡ false → Moves n m t u
       → Moves n m t (enqAssignment code reason u)
 
--- the switches that count after a line that switches nothing off, and after one that does
+-- the switches that count at first, after a line that switches nothing off, and after one that does
+pub counts-nil : (sw : Bool) → counts sw [] ≡ (λ v. true)
+unfolding counts on
+counts-nil true = refl
+counts-nil false = refl
+
 counts-same : (sw : Bool) (l : Line) (ls : List Line) → on (l ∷ ls) ≡ on ls → counts sw (l ∷ ls) ≡ counts sw ls
 unfolding counts
 counts-same true l ls e = e
 counts-same false l ls e = refl
 
-counts-off : (sw : Bool) (v : ℕ) (ls : List Line) → counts sw (record { call = switchOff v; status = 0; reply = none } ∷ ls) ≡ cond sw (without v (counts sw ls)) (counts sw ls)
+counts-off : (sw : Bool) (v : ℕ) (ls : List Line)
+    → counts sw (record { call = switchOff v; status = 0; reply = none } ∷ ls) ≡ cond sw (without v (counts sw ls)) (counts sw ls)
 unfolding counts on switched
 counts-off true v ls = refl
 counts-off false v ls = refl
@@ -46,7 +52,9 @@ module _ (n m : ℕ) (C : Chooser n m) where
 
   went-moves : (l : ℕ) (s : Session n m C) → Moves n m (s .trail) ((wentBack n m C l s) .trail)
   unfolding wentBack
-  went-moves l s = cond-elim (λ (u : Session n m C). Moves n m (s .trail) (u .trail)) (ltb l (s .trail .level)) (λ e. backtracks l (ltb-true l (s .trail .level) e)) (λ e. stays)
+  went-moves l s =
+      cond-elim (λ (u : Session n m C). Moves n m (s .trail) (u .trail)) (ltb l (s .trail .level))
+      (λ e. backtracks l (ltb-true l (s .trail .level) e)) (λ e. stays)
 
   enqueued-good : (code reason : ℕ) {b : Book} {o : ℕ → Bool} (u : Session n m C) → Good n m C b o u → index code < n → goodReason m reason ≡ true
       → isAssigned (u .trail .values) (index code) ≡ false → Good n m C (entry code reason false ∷ b) o (enqueued n m C code reason u)
@@ -55,9 +63,13 @@ module _ (n m : ℕ) (C : Chooser n m) where
       let e = is-unassigned (g .fine) (index code) h (rw (g .holds .values) at a) in
       record {
         fine = fine-add h hr e (g .fine);
-        holds = enq-holds code reason (g .fine) h e (g .holds);
+        holds = enq-holds code reason (g .fine) e (g .holds);
         ok = C .assign-ok (index code) (polarity code) (u .chooser) h (omega arith) (g .ok);
       }
+
+  -- what `get_next` owes, by the book
+  abbrev pub Owed : List Line → Next (C .State) → Type 0
+  Owed ls x = NextRight n (valuesOf n (book ls)) (counts (C .switches) ls) (C .ok) x
 
   module _ (s : Session n m C) (ls : List Line) (g : GoodAfter n m C ls s) where
     refused : {c : Call} (k : ℕ) → eqb k 0 ≡ false → Kept ls s c (refuse k)
@@ -87,15 +99,14 @@ module _ (n m : ℕ) (C : Chooser n m) where
         go none q = refused largeStep refl
         go (some d) q = kept-by e2 stays (rw e (with-good d q))
 
-    -- what `get_next` owes, by the book
-    pub asked : NextRight n (valuesOf n (book ls)) (counts (C .switches) ls) (C .ok) (C .getNext (s .trail .values) (s .chooser))
-    asked = subst (λ (vs : List ℕ). NextRight n (valuesOf n (book ls)) (counts (C .switches) ls) (C .ok) (C .getNext vs (s .chooser))) (sym (g .holds .values)) (C .getNext-ok (s .chooser) (g .ok))
+    pub asked : Owed ls (C .getNext (s .trail .values) (s .chooser))
+    asked = subst (λ (vs : List ℕ). Owed ls (C .getNext vs (s .chooser))) (sym (g .holds .values)) (C .getNext-ok (s .chooser) (g .ok))
 
     decide-kept : (p : ℕ) → p < 2 → Kept ls s (decide p) (decided n m C p s (C .getNext (s .trail .values) (s .chooser)))
     unfolding decided written switched valuesOf
     decide-kept p hp = go (C .getNext (s .trail .values) (s .chooser)) asked
       where
-        go : (x : Next (C .State)) → NextRight n (valuesOf n (book ls)) (counts (C .switches) ls) (C .ok) x → Kept ls s (decide p) (decided n m C p s x)
+        go : (x : Next (C .State)) → Owed ls x → Kept ls s (decide p) (decided n m C p s x)
         go (chose v d) (hv, ho, a, f) =
             let e = is-unassigned (g .fine) v hv a in
             let q1 : new v p / 2 ≡ v = omega arith in

@@ -12,14 +12,14 @@ use Rattle.lit.specs.Numbers.{NONE, noVariable, badPolarity, assigned}
 use Rattle.lit.specs.Lits.{index, isAssigned}
 use Rattle.trail.specs.Trail.{Trail, enqAssignment}
 use Rattle.book.specs.Calls.{Call, decide, learnUnit, Line}
-use Rattle.book.specs.Book.{Book, presentLevel, back, book, openings, valuesOf, on, counts}
-use Rattle.book.specs.Chooser.{Next, chose, nothing, stuck, NextRight, Chooser}
+use Rattle.book.specs.Book.{Book, presentLevel, back, book, openings, valuesOf}
+use Rattle.book.specs.Chooser.{Next, chose, nothing, stuck, Chooser}
 use Rattle.book.specs.Session.{done, status, reply, leaves, need, Session, fresh, wentBack, enqueued, decided, call}
 use Rattle.book.specs.Claim.{Event, Past, log, Records, recordsOf, recordsIn, SettledBy, Raises, JustBefore, here, earlier, AsThen, Each, Run, begin, step, run, Claim, Term3}
 use Rattle.book.proofs.Books.{length-openings, Seen, raised, over, seen, fine-nil}
 use Rattle.book.proofs.Memory.{fresh-holds, told}
 use Rattle.book.proofs.Going.{GoodAfter, went}
-use Rattle.book.proofs.Steps.{Kept, asked, kept}
+use Rattle.book.proofs.Steps.{counts-nil, Kept, Owed, asked, kept}
 
 -- the records of an event are those in the book before it and after it
 abbrev Moment : ℕ → Event → Past → Type 0
@@ -30,15 +30,16 @@ unfolding recordsOf recordsIn
 level-told n b t e = ap (λ (x : Records). x .level) e
 
 -- what is in the book gone back to l stood in the trail just before the latest decision that raised the level from l
-Stood : ℕ → ℕ → Past → Type 0
+abbrev Stood : ℕ → ℕ → Past → Type 0
 Stood n l past = (t : Trail) × JustBefore l t past × (recordsOf t ≡ recordsIn n (back l (book (log past))))
 
 find : (n l : ℕ) (past : Past) → Each (Moment n) past → l < presentLevel (book (log past)) → Stood n l past
-unfolding Each Stood
+unfolding Each
 find n l [] ms h = absurd (unfold presentLevel book in (omega arith))
 find n l (ev ∷ past) (m, ms) h = go (seen l (ev .line) (log past) h) (find n l past ms)
   where
-    go : Seen l (ev .line .call) (book (log past)) (book (log (ev ∷ past))) → (l < presentLevel (book (log past)) → Stood n l past) → Stood n l (ev ∷ past)
+    go : Seen l (ev .line .call) (book (log past)) (book (log (ev ∷ past))) → (l < presentLevel (book (log past)) → Stood n l past)
+        → Stood n l (ev ∷ past)
     go (raised p e h1 h2 q) ih = (
       ev .before,
       here (record { polarity = p; decision = e; from = level-told n _ _ (m .0) ∙ h1; to = level-told n _ _ (m .1) ∙ h2 }) refl,
@@ -48,11 +49,6 @@ find n l (ev ∷ past) (m, ms) h = go (seen l (ev .line) (log past) h) (find n l
         let (t, j, k) = ih h1 in
         (t, earlier (λ (r : Raises l ev). omega (arith, r .from, level-told n _ _ (m .0))) j, rw q k)
 
-counts-nil : (sw : Bool) → counts sw [] ≡ (λ v. true)
-unfolding counts on
-counts-nil true = refl
-counts-nil false = refl
-
 module _ (n m : ℕ) (C : Chooser n m) where
   -- (b)
   none-right : (s : Session n m C) (ls : List Line) → GoodAfter n m C ls s → (p : ℕ) → eqb (status (call n m C s (decide p))) 0 ≡ true
@@ -60,7 +56,7 @@ module _ (n m : ℕ) (C : Chooser n m) where
   unfolding call need decided
   none-right s ls g p = go (ltb p 2) (C .getNext (s .trail .values) (s .chooser)) (asked n m C s ls g)
     where
-      go : (t : Bool) (x : Next (C .State)) → NextRight n (valuesOf n (book ls)) (counts (C .switches) ls) (C .ok) x
+      go : (t : Bool) (x : Next (C .State)) → Owed n m C ls x
           → eqb (status (need t badPolarity (decided n m C p s x))) 0 ≡ true
           → reply (need t badPolarity (decided n m C p s x)) ≡ none ↔ SettledBy n (C .switches) ls
       go false x q a = absurd (false≢true a)
@@ -69,11 +65,12 @@ module _ (n m : ℕ) (C : Chooser n m) where
       go true stuck q a = absurd (false≢true a)
 
   -- and where all is settled, a decide is not refused with 14
-  pub settled-accepted : (s : Session n m C) (ls : List Line) → GoodAfter n m C ls s → SettledBy n (C .switches) ls → (p : ℕ) → p < 2 → status (call n m C s (decide p)) ≡ 0
+  pub settled-accepted : (s : Session n m C) (ls : List Line) → GoodAfter n m C ls s → SettledBy n (C .switches) ls → (p : ℕ) → p < 2
+      → status (call n m C s (decide p)) ≡ 0
   unfolding call need decided
   settled-accepted s ls g f p h = rw (lt-ltb p 2 h) (go (C .getNext (s .trail .values) (s .chooser)) (asked n m C s ls g))
     where
-      go : (x : Next (C .State)) → NextRight n (valuesOf n (book ls)) (counts (C .switches) ls) (C .ok) x → status (decided n m C p s x) ≡ 0
+      go : (x : Next (C .State)) → Owed n m C ls x → status (decided n m C p s x) ≡ 0
       go (chose v d) q = refl
       go (nothing d) q = refl
       go stuck q = absurd (q f)
@@ -81,7 +78,6 @@ module _ (n m : ℕ) (C : Chooser n m) where
   -- (c)
   as-then : (s : Session n m C) (past : Past) → GoodAfter n m C (log past) s → Each (Moment n) past → (l : ℕ) → l < s .trail .level
       → AsThen l ((wentBack n m C l s) .trail) past
-  unfolding Stood
   as-then s past g ms l h =
       let (t, j, k) = find n l past ms (omega (arith, g .holds .opened .count, length-openings (book (log past)))) in
       (t, j, told (went n m C l s g .holds) ∙ sym k)
@@ -94,7 +90,8 @@ module _ (n m : ℕ) (C : Chooser n m) where
       u : Session n m C
       u = enqueued n m C code NONE (wentBack n m C 0 s)
 
-      go : (t t2 : Bool) → eqb (status (need t noVariable (need t2 assigned (done none u)))) 0 ≡ true → (leaves s (need t noVariable (need t2 assigned (done none u)))) .trail ≡ u .trail
+      go : (t t2 : Bool) → eqb (status (need t noVariable (need t2 assigned (done none u)))) 0 ≡ true
+          → (leaves s (need t noVariable (need t2 assigned (done none u)))) .trail ≡ u .trail
       go false t2 a = absurd (false≢true a)
       go true false a = absurd (false≢true a)
       go true true a = refl
