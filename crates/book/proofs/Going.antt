@@ -1,17 +1,16 @@
 -- Going back does what the book says: the trail by the entries that are dropped, the chooser by their variables, last first.
 use Prim.Native.Nat.{ℕ, zero, suc, _+_, _-_, _≤_, _<_}
 use mathlib.Core.Path.{_≡_, refl, ap, _∙_}
-use mathlib.Core.Bool.{Bool, true, false}
+use mathlib.Core.Bool.{Bool, true, false, cond}
 use mathlib.Core.List.{List, [], _∷_, map, reverse, reverse-append, map-append}
 use native.Mathlib.Omega.{arith}
 use lib.ListN.{length, getD, take, drop}
 use lib.Seq.{take-length, drop-length, drop-append-le, set-set}
 use lib.Dec.{ltb}
 use borrow.Author.Tests.{ltb-true, ltb-false}
-use Rattle.laws.specs.Tests.{cond-elim}
 use Rattle.lit.specs.Numbers.{unassigned}
 use Rattle.lit.specs.Lits.{index}
-use Rattle.trail.specs.Trail.{Trail, last, backstep, backsteps, howMany, backtrackTo, undone}
+use Rattle.trail.specs.Trail.{Trail, last, backstep, backsteps, howMany, backtrackTo, backtrackSafe, undone}
 use Rattle.book.specs.Calls.{Line}
 use Rattle.book.specs.Book.{Entry, entry, Book, presentLevel, back, book, codes, openings, valuesOf, counts}
 use Rattle.book.specs.Chooser.{Chooser}
@@ -84,20 +83,15 @@ module _ (n m : ℕ) (C : Chooser n m) where
       offers k (C .offer (index x) c) f (rw (set-set, set-same (valuesOf n b) (index x) unassigned e) at (C .offer-ok (index x) c h q))
 
   pub went : (l : ℕ) {b : Book} {on : ℕ → Bool} (s : Session n m C) → Good b on s → Good (back l b) on (wentBack n m C l s)
-  unfolding wentBack
-  went l {b} {on} s g = cond-elim (Good (back l b) on) (ltb l (s .trail .level)) down still
+  unfolding wentBack backtrackSafe
+  went l {b} {on} s g = go (ltb l (s .trail .level)) refl
     where
       present : s .trail .level ≡ presentLevel b
       present = g .holds .opened .count ∙ length-openings b
 
-      still : ltb l (s .trail .level) ≡ false → Good (back l b) on s
-      still e =
-          let h : presentLevel b ≤ l = omega (arith, present, ltb-false l (s .trail .level) e) in
-          rw (back-same l b h) g
-
-      down : ltb l (s .trail .level) ≡ true
-          → Good (back l b) on (record { trail = backtrackTo l (s .trail); chooser = offerAll n m C (undone l (s .trail)) (s .chooser) })
-      down e =
+      go : (t : Bool) → ltb l (s .trail .level) ≡ t
+          → Good (back l b) on (record { trail = cond t (backtrackTo l (s .trail)) (s .trail); chooser = cond t (offerAll n m C (undone l (s .trail)) (s .chooser)) (s .chooser) })
+      go true e =
           let h : l < presentLevel b = omega (arith, present, ltb-true l (s .trail .level) e) in
           let f : Back l b (back l b) = back-facts l b h in
           record {
@@ -105,6 +99,9 @@ module _ (n m : ℕ) (C : Chooser n m) where
             holds = back-holds l (s .trail) (g .fine) h (g .holds);
             ok = rw (undone-is l h (g .holds) .1) (rw (f .rest) at (offers (dropped l b) (s .chooser) (g .fine) (g .ok)));
           }
+      go false e =
+          let h : presentLevel b ≤ l = omega (arith, present, ltb-false l (s .trail .level) e) in
+          rw (back-same l b h) g
 
   -- ---- the first loop of `backtrack_to` as the source has it: `backstep`, and at once its variable to `insert`; k times
   unfoldable pub interleaved : ℕ → Session n m C → Session n m C

@@ -11,7 +11,7 @@ use lib.Dec.{eqb}
 use borrow.Author.Tests.{not-true, not-false}
 use Rattle.laws.specs.Tests.{and-left, and-right, cond-elim}
 use Rattle.lit.specs.Lits.{isAssigned}
-use Rattle.trail.specs.Trail.{freshTrail, enqDecision, backtrackTo, backsteps, backstep, closeLevels, rewind, undone}
+use Rattle.trail.specs.Trail.{freshTrail, enqDecision, backtrackSafe, backtrackTo, backsteps, backstep, closeLevels, rewind, undone}
 use Rattle.book.specs.Calls.{Call, decide, goBack, Line}
 use Rattle.book.specs.Book.{without}
 use Rattle.book.specs.Session.{need, fresh, call, decided, wentBack, offerAll}
@@ -99,5 +99,5 @@ line c k r = record { call = c; status = k; reply = r }
 -- case D of document 01, but for the order of the list: two decisions, both undone, and then refusal 14
 case-d : log ((run 2 0 (looker false 2 0) (begin 2 0 (looker false 2 0)) (decide 1 ∷ decide 0 ∷ goBack 0 ∷ decide 1 ∷ [])) .past)
     ≡ line (decide 1) 14 none ∷ line (goBack 0) 0 (some 2) ∷ line (decide 0) 0 (some 0) ∷ line (decide 1) 0 (some 1) ∷ []
-unfolding run step begin fresh call need decided wentBack offerAll looker searched scan freshTrail enqDecision backtrackTo backsteps backstep closeLevels rewind undone
+unfolding run step begin fresh call need decided wentBack offerAll looker searched scan freshTrail enqDecision backtrackSafe backtrackTo backsteps backstep closeLevels rewind undone
 case-d = refl

@@ -11,7 +11,7 @@ use borrow.Author.Tests.{ltb-true, not-true}
 use Rattle.laws.specs.Tests.{cond-elim}
 use Rattle.lit.specs.Numbers.{NONE, largeStep, pastOpen}
 use Rattle.lit.specs.Lits.{index, polarity, new, isAssigned}
-use Rattle.trail.specs.Trail.{Trail, enqAssignment, enqDecision, backtrackTo}
+use Rattle.trail.specs.Trail.{Trail, enqAssignment, enqDecision, backtrackTo, backtrackSafe}
 use Rattle.book.specs.Calls.{Call, bump, decay, setDecay, insert, switchOff, decide, enqueue, learnUnit, goBack, bumpReason, group, Line}
 use Rattle.book.specs.Book.{entry, Book, written, book, valuesOf, without, switched, on, counts}
 use Rattle.book.specs.Chooser.{Tune, bumpVariable, decayVarInc, setVarDecay, bumpReasonLiterals, bumpVecOfVars, goodReason, fits, Next, chose, nothing, stuck, NextRight, IfSome, Chooser}
@@ -51,10 +51,8 @@ module _ (n m : ℕ) (C : Chooser n m) where
     pub moves : Moves n m (s .trail) ((leaves s x) .trail)
 
   went-moves : (l : ℕ) (s : Session n m C) → Moves n m (s .trail) ((wentBack n m C l s) .trail)
-  unfolding wentBack
-  went-moves l s =
-      cond-elim (λ (u : Session n m C). Moves n m (s .trail) (u .trail)) (ltb l (s .trail .level))
-      (λ e. backtracks l (ltb-true l (s .trail .level) e)) (λ e. stays)
+  unfolding wentBack backtrackSafe
+  went-moves l s = cond-elim (Moves n m (s .trail)) (ltb l (s .trail .level)) (λ e. backtracks l (ltb-true l (s .trail .level) e)) (λ e. stays)
 
   enqueued-good : (code reason : ℕ) {b : Book} {o : ℕ → Bool} (u : Session n m C) → Good n m C b o u → index code < n → goodReason m reason ≡ true
       → isAssigned (u .trail .values) (index code) ≡ false → Good n m C (entry code reason false ∷ b) o (enqueued n m C code reason u)

@@ -7,7 +7,7 @@ use lib.ListN.{getD}
 use lib.Dec.{ltb}
 use Rattle.lit.specs.Numbers.{NONE, noVariable, badPolarity, badReason, assigned, badDecay, largeStep, pastOpen}
 use Rattle.lit.specs.Lits.{index, isAssigned}
-use Rattle.trail.specs.Trail.{Trail, freshTrail, enqAssignment, enqDecision, backtrackTo, undone}
+use Rattle.trail.specs.Trail.{Trail, freshTrail, enqAssignment, enqDecision, backtrackSafe, undone}
 use Rattle.book.specs.Calls.{Call, bump, decay, setDecay, insert, switchOff, decide, enqueue, learnUnit, goBack, bumpReason, group}
 use Rattle.book.specs.Chooser.{bumpVariable, decayVarInc, setVarDecay, bumpReasonLiterals, bumpVecOfVars, below, goodReason, goodDecay, Next, chose, nothing, stuck, Chooser}
 
@@ -50,8 +50,10 @@ module _ (n m : ℕ) (C : Chooser n m) where
 
   -- 'Going back is `backtrack_safe`: a level not below the present one changes nothing.'
   unfoldable pub wentBack : ℕ → Session → Session
-  wentBack l s =
-      cond (ltb l (s .trail .level)) (record { trail = backtrackTo l (s .trail); chooser = offerAll (undone l (s .trail)) (s .chooser) }) s
+  wentBack l s = record {
+    trail = backtrackSafe l (s .trail);
+    chooser = cond (ltb l (s .trail .level)) (offerAll (undone l (s .trail)) (s .chooser)) (s .chooser);
+  }
 
   unfoldable pub enqueued : ℕ → ℕ → Session → Session
   enqueued code reason s = record { trail = enqAssignment code reason (s .trail); chooser = s .chooser }
