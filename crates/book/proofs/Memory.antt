@@ -6,7 +6,7 @@ use mathlib.Core.List.{List, [], _∷_, _++_}
 use native.Mathlib.Omega.{arith}
 use native.Mathlib.Numerals.{add-one}
 use lib.ListN.{length, getD, set, replicate, take, drop, length-append, length-take, length-set, length-replicate}
-use lib.Seq.{take-at, drop-at, take-add, take-suc, take-take, take-set-le, take-suc-set, length-take-le, getD-at, getD-take, set-getD, set-set}
+use lib.Seq.{take-at, take-suc, take-take, take-set-le, take-suc-set, getD-at, getD-take, set-getD, set-set}
 use lib.Dec.{ltb}
 use borrow.Author.Tests.{lt-ltb}
 use Rattle.lit.specs.Numbers.{NONE, unassigned}
@@ -41,14 +41,12 @@ pop {n} {xs} {l} {k} x s =
       inUse = rw (take-set-le (k - 1) l (k - 1) NONE (omega arith), ← take-take (k - 1) k l (omega arith), s .inUse) (take-at xs (x ∷ []) (k - 1) (sym q1));
     }
 
--- one of them, and those from p on
+-- one of them; and they are places of the list
 pub at : {n : ℕ} {xs l : List ℕ} {k : ℕ} (i : ℕ) → i < k → Stack n xs l k → getD l i 0 ≡ getD xs i 0
 at {n} {xs} {l} {k} i h s = sym (getD-take k l i 0 h) ∙ ap (λ (x : List ℕ). getD x i 0) (s .inUse)
 
-pub part : {n : ℕ} {xs l : List ℕ} {k : ℕ} (p j : ℕ) → p + j ≡ k → Stack n xs l k → take j (drop p l) ≡ drop p xs
-part {n} {xs} {l} {k} p j e s =
-    let h : p ≤ length l = omega (arith, s .count, ap length (s .inUse), length-take k l) in
-    sym (drop-at (take p l) (take j (drop p l)) p (length-take-le p l h)) ∙ rw (← take-add p j l, e, s .inUse)
+pub in-range : {n : ℕ} {xs l : List ℕ} {k : ℕ} → Stack n xs l k → k ≤ length l
+in-range {l = l} {k = k} s = omega (arith, s .count, ap length (s .inUse), length-take k l)
 
 -- ---- levels of assigned variables: a value and a level are stored together
 
