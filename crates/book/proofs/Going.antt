@@ -4,7 +4,7 @@ use mathlib.Core.Path.{_≡_, refl, sym, _∙_}
 use mathlib.Core.Bool.{Bool, true, false, cond}
 use mathlib.Core.List.{List, [], _∷_, map, reverse, reverse-append, map-append}
 use native.Mathlib.Omega.{arith}
-use lib.ListN.{length, getD, take, drop, length-drop, length-set}
+use lib.ListN.{length, getD, set, take, drop, length-drop, length-set}
 use lib.Seq.{take-length, take-suc, getD-drop, drop-set-add, take-set-le, set-set}
 use lib.Dec.{ltb}
 use borrow.Author.Tests.{ltb-true, ltb-false}
@@ -31,8 +31,10 @@ lasts-part zero p t e h = refl
 lasts-part (suc k) p t e h =
     let q : t .len - 1 ≡ p + k = omega arith in
     let room : k < length (drop p (t .trail)) = omega (arith, length-drop p (t .trail)) in
-    rw (take-suc (drop p (t .trail)) k 0 room, getD-drop p (t .trail) k 0, map-append index, reverse-append) (
-    rw (lasts-part k p (backstep t) (sym q) (simp length-set (omega arith)), q, drop-set-add p (t .trail) k NONE, take-set-le k (drop p (t .trail)) k NONE (omega arith)))
+    let cleared : take k (drop p (set (t .trail) (p + k) NONE)) ≡ take k (drop p (t .trail))
+    = rw (drop-set-add p (t .trail) k NONE) (take-set-le k (drop p (t .trail)) k NONE (omega arith)) in
+    rw (take-suc (drop p (t .trail)) k 0 room, getD-drop p (t .trail) k 0, map-append index, reverse-append)
+    (rw (lasts-part k p (backstep t) (sym q) (simp length-set (omega arith)), q, cleared))
 
 pub undone-lasts : (l : ℕ) (t : Trail) → getD (t .opened) l 0 ≤ t .len → t .len ≤ length (t .trail) → undone l t ≡ lasts (howMany l t) t
 unfolding undone
@@ -104,7 +106,10 @@ module _ (n m : ℕ) (C : Chooser n m) where
       present = g .holds .opened .count ∙ length-openings b
 
       go : (t : Bool) → ltb l (s .trail .level) ≡ t
-          → Good (back l b) on (record { trail = cond t (backtrackTo l (s .trail)) (s .trail); chooser = cond t (offerAll n m C (undone l (s .trail)) (s .chooser)) (s .chooser) })
+          → Good (back l b) on (record {
+            trail = cond t (backtrackTo l (s .trail)) (s .trail);
+            chooser = cond t (offerAll n m C (undone l (s .trail)) (s .chooser)) (s .chooser);
+          })
       go true e =
           let h : l < presentLevel b = omega (arith, present, ltb-true l (s .trail .level) e) in
           let f : Back l b (back l b) = back-facts l b h in
@@ -122,7 +127,8 @@ module _ (n m : ℕ) (C : Chooser n m) where
   interleaved zero s = s
   interleaved (suc k) s = interleaved k (record { trail = backstep (s .trail); chooser = C .offer (last (s .trail)) (s .chooser) })
 
-  in-turn : (k : ℕ) (t : Trail) (c : C .State) → interleaved k (record { trail = t; chooser = c }) ≡ record { trail = backsteps k t; chooser = offerAll n m C (lasts k t) c }
+  in-turn : (k : ℕ) (t : Trail) (c : C .State)
+      → interleaved k (record { trail = t; chooser = c }) ≡ record { trail = backsteps k t; chooser = offerAll n m C (lasts k t) c }
   unfolding interleaved backsteps lasts offerAll
   in-turn zero t c = refl
   in-turn (suc k) t c = in-turn k (backstep t) (C .offer (last t) c)

@@ -88,7 +88,8 @@ pub record Chooser (n m : ℕ) : Type 1 where
   pub tune-ok : (t : Tune) (c : State) {values : List ℕ} {on : ℕ → Bool} → fits n m t ≡ true → ok values on c → IfSome (ok values on) (tune t c)
   pub insert-ok : (v : ℕ) (c : State) {values : List ℕ} {on : ℕ → Bool} → v < n → ok values on c → ok values on (insert v c)
   pub offer-ok : (v : ℕ) (c : State) {values : List ℕ} {on : ℕ → Bool} → v < n → ok values on c → ok (set values v unassigned) on (offer v c)
-  pub turnOff-ok : (v : ℕ) (c : State) {values : List ℕ} {on : ℕ → Bool} → v < n → ok values on c → ok values (cond switches (without v on) on) (turnOff v c)
+  pub turnOff-ok : (v : ℕ) (c : State) {values : List ℕ} {on : ℕ → Bool} → v < n → ok values on c
+      → ok values (cond switches (without v on) on) (turnOff v c)
   -- a variable gets its value from another call
   pub assign-ok : (v p : ℕ) (c : State) {values : List ℕ} {on : ℕ → Bool} → v < n → p < 2 → ok values on c → ok (set values v p) on c
   pub getNext-ok : (c : State) {values : List ℕ} {on : ℕ → Bool} → ok values on c → NextRight n values on ok (getNext values c)
