@@ -6,4 +6,4 @@ pub mod Steps
 pub mod Term3
 pub mod Runs
 pub mod Letter
-pub mod Models
+pub mod Model
