@@ -1,0 +1,108 @@
+-- Document 01 by the letter. The book oldest entry first: `back`, `codes` and `openings` are what it says, by adding an entry at the end.
+-- And the bounds of refusal 12, computed.
+use Prim.Native.Nat.{ℕ, zero, suc, _+_, _≤_, _<_}
+use mathlib.Core.Path.{_≡_, refl, sym, ap, _∙_}
+use mathlib.Core.Bool.{Bool, true, false}
+use mathlib.Core.List.{List, [], _∷_, _++_, map, reverse, reverse-cons, map-append, append-nil}
+use native.Mathlib.Omega.{arith}
+use native.Mathlib.Nat.{add-zero}
+use native.Mathlib.Decide.{decLt}
+use lib.ListN.{length, length-reverse}
+use lib.Ieee.{nan, binary64, ofBits, round, le}
+use Rattle.book.specs.Chooser.{half, one, goodDecay}
+use Rattle.book.specs.Book.{Entry, entry, Book, presentLevel, back, codes, openings}
+use Rattle.book.proofs.Books.{back-same, back-over}
+
+-- 'drops all from the (L+1)th opening entry on'
+unfoldable pub keep : ℕ → List Entry → List Entry
+keep l [] = []
+keep zero (entry c r true ∷ es) = []
+keep (suc l) (entry c r true ∷ es) = entry c r true ∷ keep l es
+keep l (entry c r false ∷ es) = entry c r false ∷ keep l es
+
+-- 'the places of opening entries', the first entry's place being i
+unfoldable pub places : ℕ → List Entry → List ℕ
+places i [] = []
+places i (entry c r true ∷ es) = i ∷ places (i + 1) es
+places i (entry c r false ∷ es) = places (i + 1) es
+
+abbrev pub code : Entry → ℕ
+code (entry c r o) = c
+
+opens : Entry → ℕ
+opens (entry c r true) = 1
+opens (entry c r false) = 0
+
+level-cons : (e : Entry) (es : List Entry) → presentLevel (e ∷ es) ≡ presentLevel es + opens e
+unfolding presentLevel opens
+level-cons (entry c r true) es = refl
+level-cons (entry c r false) es = omega arith
+
+level-snoc : (es : List Entry) (e : Entry) → presentLevel (es ++ (e ∷ [])) ≡ presentLevel es + opens e
+level-snoc [] e = level-cons e []
+level-snoc (d ∷ es) e = omega (arith, level-cons d (es ++ (e ∷ [])), level-snoc es e, level-cons d es)
+
+-- the level is the number of opening entries, whichever way they stand
+level-oldest : (b : Book) → presentLevel (reverse b) ≡ presentLevel b
+level-oldest [] = refl
+level-oldest (e ∷ b) = rw (reverse-cons) (omega (arith, level-snoc (reverse b) e, level-cons e b, level-oldest b))
+
+keep-all : (l : ℕ) (es : List Entry) → presentLevel es ≤ l → keep l es ≡ es
+unfolding keep presentLevel
+keep-all l [] h = refl
+keep-all zero (entry c r true ∷ es) h = absurd (omega arith)
+keep-all (suc l) (entry c r true ∷ es) h = ap {B = List Entry} (λ x. entry c r true ∷ x) (keep-all l es (omega arith))
+keep-all l (entry c r false ∷ es) h = ap {B = List Entry} (λ x. entry c r false ∷ x) (keep-all l es h)
+
+keep-over : (l : ℕ) (es : List Entry) (e : Entry) → l < presentLevel (es ++ (e ∷ [])) → keep l (es ++ (e ∷ [])) ≡ keep l es
+unfolding keep presentLevel
+keep-over zero [] (entry c r true) h = refl
+keep-over (suc l) [] (entry c r true) h = absurd (omega arith)
+keep-over l [] (entry c r false) h = absurd (omega arith)
+keep-over zero (entry c r true ∷ es) e h = refl
+keep-over (suc l) (entry c r true ∷ es) e h = ap {B = List Entry} (λ x. entry c r true ∷ x) (keep-over l es e (omega arith))
+keep-over l (entry c r false ∷ es) e h = ap {B = List Entry} (λ x. entry c r false ∷ x) (keep-over l es e h)
+
+pub back-by-the-letter : (l : ℕ) (b : Book) → reverse (back l b) ≡ keep l (reverse b)
+back-by-the-letter l [] = unfold keep back in refl
+back-by-the-letter l (e ∷ b) = go (decLt l (presentLevel (e ∷ b))) (back-by-the-letter l b)
+  where
+    go : Dec (l < presentLevel (e ∷ b)) → reverse (back l b) ≡ keep l (reverse b) → reverse (back l (e ∷ b)) ≡ keep l (reverse (e ∷ b))
+    go (yes h) ih =
+        let hl : l < presentLevel (reverse b ++ (e ∷ [])) = omega (arith, level-snoc (reverse b) e, level-cons e b, level-oldest b) in
+        rw (back-over l e b h, ih, reverse-cons) (sym (keep-over l (reverse b) e hl))
+    go (no h) ih = rw (back-same l (e ∷ b) (omega arith)) (sym (keep-all l (reverse (e ∷ b)) (omega (arith, level-oldest (e ∷ b)))))
+
+pub codes-by-the-letter : (b : Book) → codes b ≡ map code (reverse b)
+unfolding codes
+codes-by-the-letter [] = refl
+codes-by-the-letter (entry c r o ∷ b) = rw (reverse-cons, map-append code, codes-by-the-letter b)
+
+places-snoc : (i k : ℕ) (es : List Entry) (e : Entry) → i + length es ≡ k → places i (es ++ (e ∷ [])) ≡ places i es ++ places k (e ∷ [])
+unfolding places
+places-snoc i k [] e q = ap (λ (x : ℕ). places x (e ∷ [])) (sym (add-zero i) ∙ q)
+places-snoc i k (entry c r true ∷ es) e q = ap {B = List ℕ} (λ x. i ∷ x) (places-snoc (i + 1) k es e (omega arith))
+places-snoc i k (entry c r false ∷ es) e q = places-snoc (i + 1) k es e (omega arith)
+
+pub openings-by-the-letter : (b : Book) → openings b ≡ places 0 (reverse b)
+unfolding openings places
+openings-by-the-letter [] = refl
+openings-by-the-letter (entry c r o ∷ b) =
+    rw (reverse-cons, places-snoc 0 (length b) (reverse b) (entry c r o) (omega (arith, length-reverse b)), ← openings-by-the-letter b) (go o)
+  where
+    go : (o : Bool) → openings (entry c r o ∷ b) ≡ openings b ++ places (length b) (entry c r o ∷ [])
+    go true = refl
+    go false = sym (append-nil (openings b))
+
+-- 'NaN, below 0.5 or above 1'
+half-is : half ≡ round binary64 false 1 2
+unfolding ofBits round
+half-is = refl
+
+one-is : one ≡ round binary64 false 1 1
+unfolding ofBits round
+one-is = refl
+
+no-nan : goodDecay nan ≡ false
+unfolding ofBits le
+no-nan = refl

@@ -1,0 +1,9 @@
+-- Term 3 proved: facts of books, the trail's memory by the book, going back, each call, and the claim.
+pub mod Books
+pub mod Memory
+pub mod Going
+pub mod Steps
+pub mod Term3
+pub mod Runs
+pub mod Letter
+pub mod Model

@@ -1,0 +1,142 @@
+-- Term 3, proved of every chooser that keeps its laws: by one induction over the calls, (c) by one over the past.
+use Prim.Native.Nat.{ℕ, _<_}
+use mathlib.Core.Path.{_≡_, refl, sym, ap, _∙_}
+use mathlib.Core.Logic.{_↔_}
+use mathlib.Core.Bool.{Bool, true, false, not, false≢true}
+use mathlib.Core.Option.{none, Option·some-ne-none}
+use mathlib.Core.List.{List, [], _∷_}
+use native.Mathlib.Omega.{arith}
+use lib.Dec.{ltb, eqb}
+use borrow.Author.Tests.{lt-ltb}
+use Rattle.lit.specs.Numbers.{NONE, noVariable, badPolarity, assigned}
+use Rattle.lit.specs.Lits.{index, isAssigned}
+use Rattle.trail.specs.Trail.{Trail, enqAssignment}
+use Rattle.book.specs.Calls.{Call, decide, learnUnit, Line}
+use Rattle.book.specs.Book.{Book, presentLevel, back, book, openings, valuesOf}
+use Rattle.book.specs.Chooser.{Next, chose, nothing, stuck, Chooser}
+use Rattle.book.specs.Session.{done, status, reply, leaves, need, Session, fresh, wentBack, enqueued, decided, call}
+use Rattle.book.specs.Claim.{Event, Past, log, Records, recordsOf, recordsIn, SettledBy, Raises, JustBefore, here, earlier, AsThen, Each, Run, begin, step, run, Claim, Term3}
+use Rattle.book.proofs.Books.{length-openings, Seen, raised, over, seen, fine-nil}
+use Rattle.book.proofs.Memory.{fresh-holds, told}
+use Rattle.book.proofs.Going.{GoodAfter, went}
+use Rattle.book.proofs.Steps.{counts-nil, Kept, Owed, asked, kept}
+
+-- the records of an event are those in the book before it and after it
+abbrev Moment : ℕ → Event → Past → Type 0
+Moment n ev past = (recordsOf (ev .before) ≡ recordsIn n (book (log past))) × (recordsOf (ev .after) ≡ recordsIn n (book (log (ev ∷ past))))
+
+level-told : (n : ℕ) (b : Book) (t : Trail) → recordsOf t ≡ recordsIn n b → t .level ≡ presentLevel b
+unfolding recordsOf recordsIn
+level-told n b t e = ap (λ (x : Records). x .level) e
+
+-- what is in the book gone back to l stood in the trail just before the latest decision that raised the level from l
+abbrev Stood : ℕ → ℕ → Past → Type 0
+Stood n l past = (t : Trail) × JustBefore l t past × (recordsOf t ≡ recordsIn n (back l (book (log past))))
+
+find : (n l : ℕ) (past : Past) → Each (Moment n) past → l < presentLevel (book (log past)) → Stood n l past
+unfolding Each
+find n l [] ms h = absurd (unfold presentLevel book in (omega arith))
+find n l (ev ∷ past) (m, ms) h = go (seen l (ev .line) (log past) h) (find n l past ms)
+  where
+    go : Seen l (ev .line .call) (book (log past)) (book (log (ev ∷ past))) → (l < presentLevel (book (log past)) → Stood n l past)
+        → Stood n l (ev ∷ past)
+    go (raised p e h1 h2 q) ih = (
+      ev .before,
+      here (record { polarity = p; decision = e; from = level-told n _ _ (m .0) ∙ h1; to = level-told n _ _ (m .1) ∙ h2 }) refl,
+      rw q (m .0),
+    )
+    go (over h1 q) ih =
+        let (t, j, k) = ih h1 in
+        (t, earlier (λ (r : Raises l ev). omega (arith, r .from, level-told n _ _ (m .0))) j, rw q k)
+
+module _ (n m : ℕ) (C : Chooser n m) where
+  -- (b)
+  none-right : (s : Session n m C) (ls : List Line) → GoodAfter n m C ls s → (p : ℕ) → eqb (status (call n m C s (decide p))) 0 ≡ true
+      → reply (call n m C s (decide p)) ≡ none ↔ SettledBy n (C .switches) ls
+  unfolding call need decided
+  none-right s ls g p = go (ltb p 2) (C .getNext (s .trail .values) (s .chooser)) (asked n m C s ls g)
+    where
+      go : (t : Bool) (x : Next (C .State)) → Owed n m C ls x
+          → eqb (status (need t badPolarity (decided n m C p s x))) 0 ≡ true
+          → reply (need t badPolarity (decided n m C p s x)) ≡ none ↔ SettledBy n (C .switches) ls
+      go false x q a = absurd (false≢true a)
+      go true (chose v d) (hv, ho, hu, q) a = ((λ e. absurd (Option·some-ne-none v e)), (λ f. absurd (false≢true (sym hu ∙ f v hv ho))))
+      go true (nothing d) (q, o) a = ((λ e. q), (λ f. refl))
+      go true stuck q a = absurd (false≢true a)
+
+  -- and where all is settled, a decide is not refused with 14
+  pub settled-accepted : (s : Session n m C) (ls : List Line) → GoodAfter n m C ls s → SettledBy n (C .switches) ls → (p : ℕ) → p < 2
+      → status (call n m C s (decide p)) ≡ 0
+  unfolding call need decided
+  settled-accepted s ls g f p h = rw (lt-ltb p 2 h) (go (C .getNext (s .trail .values) (s .chooser)) (asked n m C s ls g))
+    where
+      go : (x : Next (C .State)) → Owed n m C ls x → status (decided n m C p s x) ≡ 0
+      go (chose v d) q = refl
+      go (nothing d) q = refl
+      go stuck q = absurd (q f)
+
+  -- (c)
+  as-then : (s : Session n m C) (past : Past) → GoodAfter n m C (log past) s → Each (Moment n) past → (l : ℕ) → l < s .trail .level
+      → AsThen l ((wentBack n m C l s) .trail) past
+  as-then s past g ms l h =
+      let (t, j, k) = find n l past ms (omega (arith, g .holds .opened .count, length-openings (book (log past)))) in
+      (t, j, told (went n m C l s g .holds) ∙ sym k)
+
+  unit-after : (s : Session n m C) (code : ℕ) → eqb (status (call n m C s (learnUnit code))) 0 ≡ true
+      → (leaves s (call n m C s (learnUnit code))) .trail ≡ enqAssignment code NONE ((wentBack n m C 0 s) .trail)
+  unfolding call need enqueued
+  unit-after s code = go (ltb (index code) n) (not (isAssigned ((wentBack n m C 0 s) .trail .values) (index code)))
+    where
+      u : Session n m C
+      u = enqueued n m C code NONE (wentBack n m C 0 s)
+
+      go : (t t2 : Bool) → eqb (status (need t noVariable (need t2 assigned (done none u)))) 0 ≡ true
+          → (leaves s (need t noVariable (need t2 assigned (done none u)))) .trail ≡ u .trail
+      go false t2 a = absurd (false≢true a)
+      go true false a = absurd (false≢true a)
+      go true true a = refl
+
+  -- what every run keeps: its session is good, and the claim holds of it
+  pub record Inv (r : Run n m C) : Type 0 where
+    pub good : GoodAfter n m C (log (r .past)) (r .now)
+    pub moments : Each (Moment n) (r .past)
+    pub claim : Claim n m C r
+
+  pub began : Inv (begin n m C)
+  unfolding begin fresh Each book openings valuesOf
+  began = record {
+    good = record { fine = fine-nil; holds = fresh-holds n; ok = rw (counts-nil (C .switches)) (C .start-ok) };
+    moments = tt;
+    claim = record { told = told (fresh-holds n); noneRight = tt; backRight = tt; unitRight = tt };
+  }
+
+  pub stepped : (r : Run n m C) (c : Call) → Inv r → Inv (step n m C r c)
+  unfolding step Each
+  stepped r c i =
+      let s = r .now in
+      let k : Kept n m C (log (r .past)) s c (call n m C s c) = kept n m C s (log (r .past)) (i .good) c in
+      record {
+        good = k .good;
+        moments = ((told (i .good .holds), told (k .good .holds)), i .moments);
+        claim = record {
+          told = told (k .good .holds);
+          noneRight = ((λ p e a. rw e (none-right s (log (r .past)) (i .good) p (rw e at a))), i .claim .noneRight);
+          backRight = ((λ l e a h. rw e (unfold call in (as-then s (r .past) (i .good) (i .moments) l h))), i .claim .backRight);
+          unitRight = (
+            (λ code e a h. ((wentBack n m C 0 s) .trail, as-then s (r .past) (i .good) (i .moments) 0 h, rw e (unit-after s code (rw e at a)))),
+            i .claim .unitRight,
+          );
+        };
+      }
+
+  ran : (r : Run n m C) (calls : List Call) → Inv r → Inv (run n m C r calls)
+  unfolding run
+  ran r [] i = i
+  ran r (c ∷ cs) i = ran (step n m C r c) cs (stepped r c i)
+
+  -- every session of a run is good
+  pub every : (calls : List Call) → Inv (run n m C (begin n m C) calls)
+  every calls = ran (begin n m C) calls began
+
+  pub term3 : Term3 n m C
+  term3 calls = every calls .claim
