@@ -13,7 +13,7 @@ use Rattle.lit.specs.Lits.{index}
 use Rattle.trail.specs.Trail.{Trail, last, backstep, backsteps, howMany, backtrackTo, backtrackSafe, undone}
 use Rattle.book.specs.Calls.{Line}
 use Rattle.book.specs.Book.{Entry, entry, Book, presentLevel, back, book, openings, valuesOf, counts}
-use Rattle.book.specs.Chooser.{Chooser}
+use Rattle.book.specs.Chooser.{Operations, Chooser}
 use Rattle.book.specs.Session.{Session, offerAll, wentBack}
 use Rattle.book.proofs.Books.{length-openings, length-codes, back-same, Back, back-facts, Fine, fine-nil, fine-add, fine-drop}
 use Rattle.book.proofs.Memory.{at, in-range, Holds, Held, set-same, last-is, backstep-held, backsteps-held, close-held, rewind-held}
@@ -78,27 +78,27 @@ back-holds {n} l {b} t fine h g =
     let w = close-held (t .level - l) l {n = n} {b = back l b} (openings b) (backsteps (dropped l b) t) (omega arith) (rw (up, take-length) u) in
     rw (q, f .opens) (rewind-held _ w)
 
-module _ (n m : ℕ) (C : Chooser n m) where
+module _ (n m : ℕ) (O : Operations) (C : Chooser n m O) where
   -- a session that the book b fits, its chooser good for these switches
-  pub record Good (b : Book) (on : ℕ → Bool) (s : Session n m C) : Type 0 where
+  pub record Good (b : Book) (on : ℕ → Bool) (s : Session n m O) : Type 0 where
     pub fine : Fine n m b
     pub holds : Holds n b (s .trail)
     pub ok : C .ok (valuesOf n b) on (s .chooser)
 
   -- a session that the calls of a log may leave
-  abbrev pub GoodAfter : List Line → Session n m C → Type 0
-  GoodAfter ls s = Good (book ls) (counts (C .switches) ls) s
+  abbrev pub GoodAfter : List Line → Session n m O → Type 0
+  GoodAfter ls s = Good (book ls) (counts (O .switches) ls) s
 
   -- the chooser is offered the variables of the k newest entries
-  offers : (k : ℕ) {b : Book} {on : ℕ → Bool} (c : C .State) → Fine n m b → C .ok (valuesOf n b) on c
-      → C .ok (valuesOf n (drop k b)) on (offerAll n m C (map variable (take k b)) c)
+  offers : (k : ℕ) {b : Book} {on : ℕ → Bool} (c : O .State) → Fine n m b → C .ok (valuesOf n b) on c
+      → C .ok (valuesOf n (drop k b)) on (offerAll n m O (map variable (take k b)) c)
   unfolding offerAll valuesOf
   offers zero c f q = q
   offers (suc k) c fine-nil q = q
   offers (suc k) c (fine-add {c = x} {b = b} h g e f) q =
-      offers k (C .offer (index x) c) f (rw (set-set, set-same (valuesOf n b) (index x) unassigned e) at (C .offer-ok (index x) c h q))
+      offers k (O .offer (index x) c) f (rw (set-set, set-same (valuesOf n b) (index x) unassigned e) at (C .offer-ok (index x) c h q))
 
-  pub went : (l : ℕ) {b : Book} {on : ℕ → Bool} (s : Session n m C) → Good b on s → Good (back l b) on (wentBack n m C l s)
+  pub went : (l : ℕ) {b : Book} {on : ℕ → Bool} (s : Session n m O) → Good b on s → Good (back l b) on (wentBack n m O l s)
   unfolding wentBack backtrackSafe
   went l {b} {on} s g = go (ltb l (s .trail .level)) refl
     where
@@ -108,7 +108,7 @@ module _ (n m : ℕ) (C : Chooser n m) where
       go : (t : Bool) → ltb l (s .trail .level) ≡ t
           → Good (back l b) on (record {
             trail = cond t (backtrackTo l (s .trail)) (s .trail);
-            chooser = cond t (offerAll n m C (undone l (s .trail)) (s .chooser)) (s .chooser);
+            chooser = cond t (offerAll n m O (undone l (s .trail)) (s .chooser)) (s .chooser);
           })
       go true e =
           let h : l < presentLevel b = omega (arith, present, ltb-true l (s .trail .level) e) in
@@ -123,18 +123,18 @@ module _ (n m : ℕ) (C : Chooser n m) where
           rw (back-same l b h) g
 
   -- ---- the first loop of `backtrack_to` as the source has it: `backstep`, and at once its variable to `insert`; k times
-  unfoldable pub interleaved : ℕ → Session n m C → Session n m C
+  unfoldable pub interleaved : ℕ → Session n m O → Session n m O
   interleaved zero s = s
-  interleaved (suc k) s = interleaved k (record { trail = backstep (s .trail); chooser = C .offer (last (s .trail)) (s .chooser) })
+  interleaved (suc k) s = interleaved k (record { trail = backstep (s .trail); chooser = O .offer (last (s .trail)) (s .chooser) })
 
-  in-turn : (k : ℕ) (t : Trail) (c : C .State)
-      → interleaved k (record { trail = t; chooser = c }) ≡ record { trail = backsteps k t; chooser = offerAll n m C (lasts k t) c }
+  in-turn : (k : ℕ) (t : Trail) (c : O .State)
+      → interleaved k (record { trail = t; chooser = c }) ≡ record { trail = backsteps k t; chooser = offerAll n m O (lasts k t) c }
   unfolding interleaved backsteps lasts offerAll
   in-turn zero t c = refl
-  in-turn (suc k) t c = in-turn k (backstep t) (C .offer (last t) c)
+  in-turn (suc k) t c = in-turn k (backstep t) (O .offer (last t) c)
 
   -- the trail and the chooser may be moved one after the other
-  pub apart : (l : ℕ) (s : Session n m C) → getD (s .trail .opened) l 0 ≤ s .trail .len → s .trail .len ≤ length (s .trail .trail)
+  pub apart : (l : ℕ) (s : Session n m O) → getD (s .trail .opened) l 0 ≤ s .trail .len → s .trail .len ≤ length (s .trail .trail)
       → interleaved (howMany l (s .trail)) s
-      ≡ record { trail = backsteps (howMany l (s .trail)) (s .trail); chooser = offerAll n m C (undone l (s .trail)) (s .chooser) }
+      ≡ record { trail = backsteps (howMany l (s .trail)) (s .trail); chooser = offerAll n m O (undone l (s .trail)) (s .chooser) }
   apart l s h h2 = rw (undone-lasts l (s .trail) h h2) (in-turn (howMany l (s .trail)) (s .trail) (s .chooser))

@@ -16,7 +16,7 @@ use Rattle.book.specs.Calls.{Call, decide, goBack, Line}
 use Rattle.book.specs.Book.{without}
 use Rattle.book.specs.Session.{need, fresh, call, decided, wentBack, offerAll}
 use Rattle.book.specs.Claim.{log, run, step, begin}
-use Rattle.book.specs.Chooser.{Next, chose, nothing, stuck, NextRight, Chooser}
+use Rattle.book.specs.Chooser.{Next, chose, nothing, stuck, NextRight, Operations, Chooser}
 
 -- the greatest number below k that passes the test
 scan : (ℕ → Bool) → ℕ → Option ℕ
@@ -73,10 +73,10 @@ off-right : (n v : ℕ) (switches : Bool) (f on : ℕ → Bool) → ((w : ℕ) �
 off-right n v true f on q w h = ap (λ (x : Bool). cond (eqb w v) false x) (q w h)
 off-right n v false f on q w h = q w h
 
-pub looker : Bool → (n m : ℕ) → Chooser n m
-looker switches n m = record {
+-- its operations, with or without switches
+unfoldable looking : Bool → ℕ → Operations
+looking switches n = record {
   State = State;
-  ok = Ok n;
   switches = switches;
   start = (n, (λ v. true));
   tune = λ t c. some c;
@@ -84,6 +84,12 @@ looker switches n m = record {
   offer = λ v c. c;
   turnOff = λ v c. (c .0, cond switches (without v (c .1)) (c .1));
   getNext = λ values c. searched c (scan (free (c .1) values) (c .0)) (scan (free (c .1) values) n);
+}
+
+looker : (switches : Bool) (n m : ℕ) → Chooser n m (looking switches n)
+unfolding looking
+looker switches n m = record {
+  ok = Ok n;
   start-ok = (omega arith, (λ v h. refl));
   tune-ok = λ t c h q. q;
   insert-ok = λ v c h q. q;
@@ -97,7 +103,7 @@ abbrev line : Call → ℕ → Option ℕ → Line
 line c k r = record { call = c; status = k; reply = r }
 
 -- case D of document 01, but for the order of the list: two decisions, both undone, and then refusal 14
-case-d : log ((run 2 0 (looker false 2 0) (begin 2 0 (looker false 2 0)) (decide 1 ∷ decide 0 ∷ goBack 0 ∷ decide 1 ∷ [])) .past)
+case-d : log ((run 2 0 (looking false 2) (begin 2 0 (looking false 2)) (decide 1 ∷ decide 0 ∷ goBack 0 ∷ decide 1 ∷ [])) .past)
     ≡ line (decide 1) 14 none ∷ line (goBack 0) 0 (some 2) ∷ line (decide 0) 0 (some 0) ∷ line (decide 1) 0 (some 1) ∷ []
-unfolding run step begin fresh call need decided wentBack offerAll looker searched scan freshTrail enqDecision backtrackSafe backtrackTo backsteps backstep closeLevels rewind undone
+unfolding run step begin fresh call need decided wentBack offerAll looking searched scan freshTrail enqDecision backtrackSafe backtrackTo backsteps backstep closeLevels rewind undone
 case-d = refl

@@ -14,7 +14,7 @@ use Rattle.lit.specs.Lits.{index, polarity, new, isAssigned}
 use Rattle.trail.specs.Trail.{Trail, enqAssignment, enqDecision, backtrackTo, backtrackSafe}
 use Rattle.book.specs.Calls.{Call, bump, decay, setDecay, insert, switchOff, decide, enqueue, learnUnit, goBack, bumpReason, group, Line}
 use Rattle.book.specs.Book.{entry, Book, written, book, valuesOf, without, switched, on, counts}
-use Rattle.book.specs.Chooser.{Tune, bumpVariable, decayVarInc, setVarDecay, bumpReasonLiterals, bumpVecOfVars, goodReason, fits, Next, chose, nothing, stuck, NextRight, IfSome, Chooser}
+use Rattle.book.specs.Chooser.{Tune, bumpVariable, decayVarInc, setVarDecay, bumpReasonLiterals, bumpVecOfVars, goodReason, fits, Next, chose, nothing, stuck, NextRight, IfSome, Operations, Chooser}
 use Rattle.book.specs.Session.{Result, done, refuse, status, reply, leaves, need, Session, wentBack, enqueued, withChooser, tuned, decided, call}
 use Rattle.book.proofs.Books.{fine-add, says, is-unassigned}
 use Rattle.book.proofs.Memory.{enq-holds, dec-holds}
@@ -45,17 +45,17 @@ unfolding counts on switched
 counts-off true v ls = refl
 counts-off false v ls = refl
 
-module _ (n m : ℕ) (C : Chooser n m) where
-  pub record Kept (ls : List Line) (s : Session n m C) (c : Call) (x : Result (Session n m C)) : Type 0 where
-    pub good : GoodAfter n m C (record { call = c; status = status x; reply = reply x } ∷ ls) (leaves s x)
+module _ (n m : ℕ) (O : Operations) (C : Chooser n m O) where
+  pub record Kept (ls : List Line) (s : Session n m O) (c : Call) (x : Result (Session n m O)) : Type 0 where
+    pub good : GoodAfter n m O C (record { call = c; status = status x; reply = reply x } ∷ ls) (leaves s x)
     pub moves : Moves n m (s .trail) ((leaves s x) .trail)
 
-  went-moves : (l : ℕ) (s : Session n m C) → Moves n m (s .trail) ((wentBack n m C l s) .trail)
+  went-moves : (l : ℕ) (s : Session n m O) → Moves n m (s .trail) ((wentBack n m O l s) .trail)
   unfolding wentBack backtrackSafe
   went-moves l s = cond-elim (Moves n m (s .trail)) (ltb l (s .trail .level)) (λ e. backtracks l (ltb-true l (s .trail .level) e)) (λ e. stays)
 
-  enqueued-good : (code reason : ℕ) {b : Book} {o : ℕ → Bool} (u : Session n m C) → Good n m C b o u → index code < n → goodReason m reason ≡ true
-      → isAssigned (u .trail .values) (index code) ≡ false → Good n m C (entry code reason false ∷ b) o (enqueued n m C code reason u)
+  enqueued-good : (code reason : ℕ) {b : Book} {o : ℕ → Bool} (u : Session n m O) → Good n m O C b o u → index code < n → goodReason m reason ≡ true
+      → isAssigned (u .trail .values) (index code) ≡ false → Good n m O C (entry code reason false ∷ b) o (enqueued n m O code reason u)
   unfolding enqueued valuesOf
   enqueued-good code reason {b} u g h hr a =
       let e = is-unassigned (g .fine) (index code) h (rw (g .holds .values) at a) in
@@ -66,45 +66,45 @@ module _ (n m : ℕ) (C : Chooser n m) where
       }
 
   -- what `get_next` owes, by the book
-  abbrev pub Owed : List Line → Next (C .State) → Type 0
-  Owed ls x = NextRight n (valuesOf n (book ls)) (counts (C .switches) ls) (C .ok) x
+  abbrev pub Owed : List Line → Next (O .State) → Type 0
+  Owed ls x = NextRight n (valuesOf n (book ls)) (counts (O .switches) ls) (C .ok) x
 
-  module _ (s : Session n m C) (ls : List Line) (g : GoodAfter n m C ls s) where
+  module _ (s : Session n m O) (ls : List Line) (g : GoodAfter n m O C ls s) where
     refused : {c : Call} (k : ℕ) → eqb k 0 ≡ false → Kept ls s c (refuse k)
     unfolding book on
-    refused {c} k e = record { good = rw (counts-same (C .switches) (record { call = c; status = k; reply = none }) ls (rw e), e) g; moves = stays }
+    refused {c} k e = record { good = rw (counts-same (O .switches) (record { call = c; status = k; reply = none }) ls (rw e), e) g; moves = stays }
 
-    needed : {c : Call} (k : ℕ) (t : Bool) {x : Result (Session n m C)} → eqb k 0 ≡ false → (t ≡ true → Kept ls s c x) → Kept ls s c (need t k x)
+    needed : {c : Call} (k : ℕ) (t : Bool) {x : Result (Session n m O)} → eqb k 0 ≡ false → (t ≡ true → Kept ls s c x) → Kept ls s c (need t k x)
     unfolding need
     needed k true e f = f refl
     needed k false e f = refused k e
 
     -- an accepted call that switches nothing off
-    kept-by : {c : Call} {r : Option ℕ} {u : Session n m C} → switched c (on ls) ≡ on ls → Moves n m (s .trail) (u .trail)
-        → Good n m C (written c r (book ls)) (counts (C .switches) ls) u → Kept ls s c (done r u)
+    kept-by : {c : Call} {r : Option ℕ} {u : Session n m O} → switched c (on ls) ≡ on ls → Moves n m (s .trail) (u .trail)
+        → Good n m O C (written c r (book ls)) (counts (O .switches) ls) u → Kept ls s c (done r u)
     unfolding book on
-    kept-by {c} {r} e mv q = record { good = rw (counts-same (C .switches) (record { call = c; status = 0; reply = r }) ls e) q; moves = mv }
+    kept-by {c} {r} e mv q = record { good = rw (counts-same (O .switches) (record { call = c; status = 0; reply = r }) ls e) q; moves = mv }
 
-    with-good : {o : ℕ → Bool} (c : C .State) → C .ok (valuesOf n (book ls)) o c → Good n m C (book ls) o (withChooser n m C c s)
+    with-good : {o : ℕ → Bool} (c : O .State) → C .ok (valuesOf n (book ls)) o c → Good n m O C (book ls) o (withChooser n m O c s)
     with-good c q = record { fine = g .fine; holds = g .holds; ok = q }
 
     tune-kept : {c : Call} (t : Tune) → fits n m t ≡ true → written c none (book ls) ≡ book ls → switched c (on ls) ≡ on ls
-        → Kept ls s c (tuned n m C s (C .tune t (s .chooser)))
+        → Kept ls s c (tuned n m O s (O .tune t (s .chooser)))
     unfolding tuned
-    tune-kept {c} t h e e2 = go (C .tune t (s .chooser)) (C .tune-ok t (s .chooser) h (g .ok))
+    tune-kept {c} t h e e2 = go (O .tune t (s .chooser)) (C .tune-ok t (s .chooser) h (g .ok))
       where
-        go : (x : Option (C .State)) → IfSome (C .ok (valuesOf n (book ls)) (counts (C .switches) ls)) x → Kept ls s c (tuned n m C s x)
+        go : (x : Option (O .State)) → IfSome (C .ok (valuesOf n (book ls)) (counts (O .switches) ls)) x → Kept ls s c (tuned n m O s x)
         go none q = refused largeStep refl
         go (some d) q = kept-by e2 stays (rw e (with-good d q))
 
-    pub asked : Owed ls (C .getNext (s .trail .values) (s .chooser))
-    asked = subst (λ (vs : List ℕ). Owed ls (C .getNext vs (s .chooser))) (sym (g .holds .values)) (C .getNext-ok (s .chooser) (g .ok))
+    pub asked : Owed ls (O .getNext (s .trail .values) (s .chooser))
+    asked = subst (λ (vs : List ℕ). Owed ls (O .getNext vs (s .chooser))) (sym (g .holds .values)) (C .getNext-ok (s .chooser) (g .ok))
 
-    decide-kept : (p : ℕ) → p < 2 → Kept ls s (decide p) (decided n m C p s (C .getNext (s .trail .values) (s .chooser)))
+    decide-kept : (p : ℕ) → p < 2 → Kept ls s (decide p) (decided n m O p s (O .getNext (s .trail .values) (s .chooser)))
     unfolding decided written switched valuesOf
-    decide-kept p hp = go (C .getNext (s .trail .values) (s .chooser)) asked
+    decide-kept p hp = go (O .getNext (s .trail .values) (s .chooser)) asked
       where
-        go : (x : Next (C .State)) → Owed ls x → Kept ls s (decide p) (decided n m C p s x)
+        go : (x : Next (O .State)) → Owed ls x → Kept ls s (decide p) (decided n m O p s x)
         go (chose v d) (hv, ho, a, f) =
             let e = is-unassigned (g .fine) v hv a in
             let q1 : new v p / 2 ≡ v = omega arith in
@@ -117,18 +117,18 @@ module _ (n m : ℕ) (C : Chooser n m) where
         go (nothing d) (_, q) = kept-by refl stays (with-good d q)
         go stuck q = refused pastOpen refl
 
-    off-kept : (v : ℕ) → v < n → Kept ls s (switchOff v) (done none (withChooser n m C (C .turnOff v (s .chooser)) s))
+    off-kept : (v : ℕ) → v < n → Kept ls s (switchOff v) (done none (withChooser n m O (O .turnOff v (s .chooser)) s))
     unfolding book written
-    off-kept v h = record { good = rw (counts-off (C .switches) v ls) (with-good _ (C .turnOff-ok v (s .chooser) h (g .ok))); moves = stays }
+    off-kept v h = record { good = rw (counts-off (O .switches) v ls) (with-good _ (C .turnOff-ok v (s .chooser) h (g .ok))); moves = stays }
 
-    pub kept : (c : Call) → Kept ls s c (call n m C s c)
+    pub kept : (c : Call) → Kept ls s c (call n m O s c)
     unfolding call written switched fits enqueued
     kept (bump v) = needed _ _ refl (λ h. tune-kept (bumpVariable v) h refl refl)
     kept decay = tune-kept decayVarInc refl refl refl
     kept (setDecay d) = needed _ _ refl (λ h. tune-kept (setVarDecay d) h refl refl)
     kept (insert v) =
         needed _ _ refl (λ h.
-        kept-by refl stays (with-good (C .insert v (s .chooser)) (C .insert-ok v (s .chooser) (ltb-true v n h) (g .ok))))
+        kept-by refl stays (with-good (O .insert v (s .chooser)) (C .insert-ok v (s .chooser) (ltb-true v n h) (g .ok))))
     kept (switchOff v) = needed _ _ refl (λ h. off-kept v (ltb-true v n h))
     kept (decide p) = needed _ _ refl (λ h. decide-kept p (ltb-true p 2 h))
     kept (enqueue code reason) =
@@ -139,13 +139,13 @@ module _ (n m : ℕ) (C : Chooser n m) where
         let a = not-true (isAssigned (s .trail .values) (index code)) q in
         kept-by refl (assigns code reason hv hr a stays) (enqueued-good code reason s g hv hr a))))
     kept (learnUnit code) =
-        let u = wentBack n m C 0 s in
+        let u = wentBack n m O 0 s in
         needed _ _ refl (λ h.
         needed _ _ refl (λ q.
         let hv : index code < n = ltb-true (index code) n h in
         let a = not-true (isAssigned (u .trail .values) (index code)) q in
-        kept-by refl (assigns code NONE hv refl a (went-moves 0 s)) (enqueued-good code NONE u (went n m C 0 s g) hv refl a)))
-    kept (goBack l) = kept-by refl (went-moves l s) (went n m C l s g)
+        kept-by refl (assigns code NONE hv refl a (went-moves 0 s)) (enqueued-good code NONE u (went n m O C 0 s g) hv refl a)))
+    kept (goBack l) = kept-by refl (went-moves l s) (went n m O C l s g)
     kept (bumpReason v) =
         needed _ _ refl (λ h.
         let r = says (g .fine) v (ltb-true v n h) .reason-good in

@@ -13,7 +13,7 @@ use Rattle.lit.specs.Lits.{index, isAssigned}
 use Rattle.trail.specs.Trail.{Trail, enqAssignment}
 use Rattle.book.specs.Calls.{Call, decide, learnUnit, Line}
 use Rattle.book.specs.Book.{Book, presentLevel, back, book, openings, valuesOf}
-use Rattle.book.specs.Chooser.{Next, chose, nothing, stuck, Chooser}
+use Rattle.book.specs.Chooser.{Next, chose, nothing, stuck, Operations, Chooser}
 use Rattle.book.specs.Session.{done, status, reply, leaves, need, Session, fresh, wentBack, enqueued, decided, call}
 use Rattle.book.specs.Claim.{Event, Past, log, Records, recordsOf, recordsIn, SettledBy, Raises, JustBefore, here, earlier, AsThen, Each, Run, begin, step, run, Claim, Term3}
 use Rattle.book.proofs.Books.{length-openings, Seen, raised, over, seen, fine-nil}
@@ -49,46 +49,46 @@ find n l (ev ∷ past) (m, ms) h = go (seen l (ev .line) (log past) h) (find n l
         let (t, j, k) = ih h1 in
         (t, earlier (λ (r : Raises l ev). omega (arith, r .from, level-told n _ _ (m .0))) j, rw q k)
 
-module _ (n m : ℕ) (C : Chooser n m) where
+module _ (n m : ℕ) (O : Operations) (C : Chooser n m O) where
   -- (b)
-  none-right : (s : Session n m C) (ls : List Line) → GoodAfter n m C ls s → (p : ℕ) → eqb (status (call n m C s (decide p))) 0 ≡ true
-      → reply (call n m C s (decide p)) ≡ none ↔ SettledBy n (C .switches) ls
+  none-right : (s : Session n m O) (ls : List Line) → GoodAfter n m O C ls s → (p : ℕ) → eqb (status (call n m O s (decide p))) 0 ≡ true
+      → reply (call n m O s (decide p)) ≡ none ↔ SettledBy n (O .switches) ls
   unfolding call need decided
-  none-right s ls g p = go (ltb p 2) (C .getNext (s .trail .values) (s .chooser)) (asked n m C s ls g)
+  none-right s ls g p = go (ltb p 2) (O .getNext (s .trail .values) (s .chooser)) (asked n m O C s ls g)
     where
-      go : (t : Bool) (x : Next (C .State)) → Owed n m C ls x
-          → eqb (status (need t badPolarity (decided n m C p s x))) 0 ≡ true
-          → reply (need t badPolarity (decided n m C p s x)) ≡ none ↔ SettledBy n (C .switches) ls
+      go : (t : Bool) (x : Next (O .State)) → Owed n m O C ls x
+          → eqb (status (need t badPolarity (decided n m O p s x))) 0 ≡ true
+          → reply (need t badPolarity (decided n m O p s x)) ≡ none ↔ SettledBy n (O .switches) ls
       go false x q a = absurd (false≢true a)
       go true (chose v d) (hv, ho, hu, q) a = ((λ e. absurd (Option·some-ne-none v e)), (λ f. absurd (false≢true (sym hu ∙ f v hv ho))))
       go true (nothing d) (q, o) a = ((λ e. q), (λ f. refl))
       go true stuck q a = absurd (false≢true a)
 
   -- and where all is settled, a decide is not refused with 14
-  pub settled-accepted : (s : Session n m C) (ls : List Line) → GoodAfter n m C ls s → SettledBy n (C .switches) ls → (p : ℕ) → p < 2
-      → status (call n m C s (decide p)) ≡ 0
+  pub settled-accepted : (s : Session n m O) (ls : List Line) → GoodAfter n m O C ls s → SettledBy n (O .switches) ls → (p : ℕ) → p < 2
+      → status (call n m O s (decide p)) ≡ 0
   unfolding call need decided
-  settled-accepted s ls g f p h = rw (lt-ltb p 2 h) (go (C .getNext (s .trail .values) (s .chooser)) (asked n m C s ls g))
+  settled-accepted s ls g f p h = rw (lt-ltb p 2 h) (go (O .getNext (s .trail .values) (s .chooser)) (asked n m O C s ls g))
     where
-      go : (x : Next (C .State)) → Owed n m C ls x → status (decided n m C p s x) ≡ 0
+      go : (x : Next (O .State)) → Owed n m O C ls x → status (decided n m O p s x) ≡ 0
       go (chose v d) q = refl
       go (nothing d) q = refl
       go stuck q = absurd (q f)
 
   -- (c)
-  as-then : (s : Session n m C) (past : Past) → GoodAfter n m C (log past) s → Each (Moment n) past → (l : ℕ) → l < s .trail .level
-      → AsThen l ((wentBack n m C l s) .trail) past
+  as-then : (s : Session n m O) (past : Past) → GoodAfter n m O C (log past) s → Each (Moment n) past → (l : ℕ) → l < s .trail .level
+      → AsThen l ((wentBack n m O l s) .trail) past
   as-then s past g ms l h =
       let (t, j, k) = find n l past ms (omega (arith, g .holds .opened .count, length-openings (book (log past)))) in
-      (t, j, told (went n m C l s g .holds) ∙ sym k)
+      (t, j, told (went n m O C l s g .holds) ∙ sym k)
 
-  unit-after : (s : Session n m C) (code : ℕ) → eqb (status (call n m C s (learnUnit code))) 0 ≡ true
-      → (leaves s (call n m C s (learnUnit code))) .trail ≡ enqAssignment code NONE ((wentBack n m C 0 s) .trail)
+  unit-after : (s : Session n m O) (code : ℕ) → eqb (status (call n m O s (learnUnit code))) 0 ≡ true
+      → (leaves s (call n m O s (learnUnit code))) .trail ≡ enqAssignment code NONE ((wentBack n m O 0 s) .trail)
   unfolding call need enqueued
-  unit-after s code = go (ltb (index code) n) (not (isAssigned ((wentBack n m C 0 s) .trail .values) (index code)))
+  unit-after s code = go (ltb (index code) n) (not (isAssigned ((wentBack n m O 0 s) .trail .values) (index code)))
     where
-      u : Session n m C
-      u = enqueued n m C code NONE (wentBack n m C 0 s)
+      u : Session n m O
+      u = enqueued n m O code NONE (wentBack n m O 0 s)
 
       go : (t t2 : Bool) → eqb (status (need t noVariable (need t2 assigned (done none u)))) 0 ≡ true
           → (leaves s (need t noVariable (need t2 assigned (done none u)))) .trail ≡ u .trail
@@ -97,24 +97,24 @@ module _ (n m : ℕ) (C : Chooser n m) where
       go true true a = refl
 
   -- what every run keeps: its session is good, and the claim holds of it
-  pub record Inv (r : Run n m C) : Type 0 where
-    pub good : GoodAfter n m C (log (r .past)) (r .now)
+  pub record Inv (r : Run n m O) : Type 0 where
+    pub good : GoodAfter n m O C (log (r .past)) (r .now)
     pub moments : Each (Moment n) (r .past)
-    pub claim : Claim n m C r
+    pub claim : Claim n m O r
 
-  pub began : Inv (begin n m C)
+  pub began : Inv (begin n m O)
   unfolding begin fresh Each book openings valuesOf
   began = record {
-    good = record { fine = fine-nil; holds = fresh-holds n; ok = rw (counts-nil (C .switches)) (C .start-ok) };
+    good = record { fine = fine-nil; holds = fresh-holds n; ok = rw (counts-nil (O .switches)) (C .start-ok) };
     moments = tt;
     claim = record { told = told (fresh-holds n); noneRight = tt; backRight = tt; unitRight = tt };
   }
 
-  pub stepped : (r : Run n m C) (c : Call) → Inv r → Inv (step n m C r c)
+  pub stepped : (r : Run n m O) (c : Call) → Inv r → Inv (step n m O r c)
   unfolding step Each
   stepped r c i =
       let s = r .now in
-      let k : Kept n m C (log (r .past)) s c (call n m C s c) = kept n m C s (log (r .past)) (i .good) c in
+      let k : Kept n m O C (log (r .past)) s c (call n m O s c) = kept n m O C s (log (r .past)) (i .good) c in
       record {
         good = k .good;
         moments = ((told (i .good .holds), told (k .good .holds)), i .moments);
@@ -123,20 +123,20 @@ module _ (n m : ℕ) (C : Chooser n m) where
           noneRight = ((λ p e a. rw e (none-right s (log (r .past)) (i .good) p (rw e at a))), i .claim .noneRight);
           backRight = ((λ l e a h. rw e (unfold call in (as-then s (r .past) (i .good) (i .moments) l h))), i .claim .backRight);
           unitRight = (
-            (λ code e a h. ((wentBack n m C 0 s) .trail, as-then s (r .past) (i .good) (i .moments) 0 h, rw e (unit-after s code (rw e at a)))),
+            (λ code e a h. ((wentBack n m O 0 s) .trail, as-then s (r .past) (i .good) (i .moments) 0 h, rw e (unit-after s code (rw e at a)))),
             i .claim .unitRight,
           );
         };
       }
 
-  ran : (r : Run n m C) (calls : List Call) → Inv r → Inv (run n m C r calls)
+  ran : (r : Run n m O) (calls : List Call) → Inv r → Inv (run n m O r calls)
   unfolding run
   ran r [] i = i
-  ran r (c ∷ cs) i = ran (step n m C r c) cs (stepped r c i)
+  ran r (c ∷ cs) i = ran (step n m O r c) cs (stepped r c i)
 
   -- every session of a run is good
-  pub every : (calls : List Call) → Inv (run n m C (begin n m C) calls)
-  every calls = ran (begin n m C) calls began
+  pub every : (calls : List Call) → Inv (run n m O (begin n m O) calls)
+  every calls = ran (begin n m O) calls began
 
-  pub term3 : Term3 n m C
+  pub term3 : Term3 n m O
   term3 calls = every calls .claim

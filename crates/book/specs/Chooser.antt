@@ -69,10 +69,9 @@ abbrev pub IfSome : {S : Type 0} → (S → Type 0) → Option S → Type 0
 IfSome P none = Unit {0}
 IfSome P (some c) = P c
 
--- A chooser for n variables and m clauses. `ok values on c`: its state c is good for these values and these switches.
-pub record Chooser (n m : ℕ) : Type 1 where
+-- The operations of a chooser.
+pub record Operations : Type 1 where
   pub State : Type 0
-  pub ok : List ℕ → (ℕ → Bool) → State → Type 0
   -- whether switching off counts, as in heap mode
   pub switches : Bool
   -- `new`, and the operations that only move the order; no state where 'the decayed step would be above 1e200' (13)
@@ -84,12 +83,17 @@ pub record Chooser (n m : ℕ) : Type 1 where
   -- `turn_off_decision_for_idx` and `get_next`
   pub turnOff : ℕ → State → State
   pub getNext : List ℕ → State → Next State
-  pub start-ok : ok (replicate n unassigned) (λ v. true) start
-  pub tune-ok : (t : Tune) (c : State) {values : List ℕ} {on : ℕ → Bool} → fits n m t ≡ true → ok values on c → IfSome (ok values on) (tune t c)
-  pub insert-ok : (v : ℕ) (c : State) {values : List ℕ} {on : ℕ → Bool} → v < n → ok values on c → ok values on (insert v c)
-  pub offer-ok : (v : ℕ) (c : State) {values : List ℕ} {on : ℕ → Bool} → v < n → ok values on c → ok (set values v unassigned) on (offer v c)
-  pub turnOff-ok : (v : ℕ) (c : State) {values : List ℕ} {on : ℕ → Bool} → v < n → ok values on c
-      → ok values (cond switches (without v on) on) (turnOff v c)
+
+-- They are a chooser for n variables and m clauses where they keep these laws. `ok values on c`: the state c is good for these values and
+-- these switches.
+pub record Chooser (n m : ℕ) (O : Operations) : Type 1 where
+  pub ok : List ℕ → (ℕ → Bool) → O .State → Type 0
+  pub start-ok : ok (replicate n unassigned) (λ v. true) (O .start)
+  pub tune-ok : (t : Tune) (c : O .State) {values : List ℕ} {on : ℕ → Bool} → fits n m t ≡ true → ok values on c → IfSome (ok values on) (O .tune t c)
+  pub insert-ok : (v : ℕ) (c : O .State) {values : List ℕ} {on : ℕ → Bool} → v < n → ok values on c → ok values on (O .insert v c)
+  pub offer-ok : (v : ℕ) (c : O .State) {values : List ℕ} {on : ℕ → Bool} → v < n → ok values on c → ok (set values v unassigned) on (O .offer v c)
+  pub turnOff-ok : (v : ℕ) (c : O .State) {values : List ℕ} {on : ℕ → Bool} → v < n → ok values on c
+      → ok values (cond (O .switches) (without v on) on) (O .turnOff v c)
   -- a variable gets its value from another call
-  pub assign-ok : (v p : ℕ) (c : State) {values : List ℕ} {on : ℕ → Bool} → v < n → p < 2 → ok values on c → ok (set values v p) on c
-  pub getNext-ok : (c : State) {values : List ℕ} {on : ℕ → Bool} → ok values on c → NextRight n values on ok (getNext values c)
+  pub assign-ok : (v p : ℕ) (c : O .State) {values : List ℕ} {on : ℕ → Bool} → v < n → p < 2 → ok values on c → ok (set values v p) on c
+  pub getNext-ok : (c : O .State) {values : List ℕ} {on : ℕ → Bool} → ok values on c → NextRight n values on ok (O .getNext values c)

@@ -11,7 +11,7 @@ use Rattle.lit.specs.Numbers.{NONE, unassigned}
 use Rattle.trail.specs.Trail.{Trail, enqAssignment}
 use Rattle.book.specs.Calls.{Call, decide, learnUnit, goBack, Line, accepted}
 use Rattle.book.specs.Book.{Book, presentLevel, book, codes, openings, valuesOf, reasonsOf, levelsOf, counts}
-use Rattle.book.specs.Chooser.{Settled, Chooser}
+use Rattle.book.specs.Chooser.{Settled, Operations}
 use Rattle.book.specs.Session.{status, reply, leaves, Session, fresh, call}
 
 -- a call of a run: its line in the log, and the trail before and after it
@@ -106,19 +106,19 @@ unfoldable pub Each : (Event → Past → Type 0) → Past → Type 0
 Each P [] = Unit {0}
 Each P (ev ∷ past) = P ev past × Each P past
 
-module _ (n m : ℕ) (C : Chooser n m) where
+module _ (n m : ℕ) (O : Operations) where
   pub record Run : Type 0 where
-    pub now : Session n m C
+    pub now : Session n m O
     pub past : Past
 
   -- 'from any fresh session'
   unfoldable pub begin : Run
-  begin = record { now = fresh n m C; past = [] }
+  begin = record { now = fresh n m O; past = [] }
 
   -- 'each call getting the state the last one left and nobody else writing it'
   unfoldable pub step : Run → Call → Run
   step r c =
-      let x = call n m C (r .now) c in
+      let x = call n m O (r .now) c in
       let next = leaves (r .now) x in
       record {
         now = next;
@@ -132,7 +132,7 @@ module _ (n m : ℕ) (C : Chooser n m) where
   -- (a), 'after the list, values, reasons, .. are those in 01's book'; (b) and (c) of each call in it
   pub record Claim (r : Run) : Type 0 where
     pub told : recordsOf (r .now .trail) ≡ recordsIn n (book (log (r .past)))
-    pub noneRight : Each (NoneRight n (C .switches)) (r .past)
+    pub noneRight : Each (NoneRight n (O .switches)) (r .past)
     pub backRight : Each BackRight (r .past)
     pub unitRight : Each UnitRight (r .past)
 

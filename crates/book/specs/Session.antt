@@ -9,7 +9,7 @@ use Rattle.lit.specs.Numbers.{NONE, noVariable, badPolarity, badReason, assigne
 use Rattle.lit.specs.Lits.{index, isAssigned}
 use Rattle.trail.specs.Trail.{Trail, freshTrail, enqAssignment, enqDecision, backtrackSafe, undone}
 use Rattle.book.specs.Calls.{Call, bump, decay, setDecay, insert, switchOff, decide, enqueue, learnUnit, goBack, bumpReason, group}
-use Rattle.book.specs.Chooser.{bumpVariable, decayVarInc, setVarDecay, bumpReasonLiterals, bumpVecOfVars, below, goodReason, goodDecay, Next, chose, nothing, stuck, Chooser}
+use Rattle.book.specs.Chooser.{bumpVariable, decayVarInc, setVarDecay, bumpReasonLiterals, bumpVecOfVars, below, goodReason, goodDecay, Next, chose, nothing, stuck, Operations}
 
 -- 'Every call returns 0 with its reply, or the first of these with reply NONE; then state and buffers are unchanged'
 pub data Result (S : Type 0) : Type 0 where
@@ -35,18 +35,18 @@ need true k x = x
 need false k x = refuse k
 
 -- n variables, m clauses
-module _ (n m : ℕ) (C : Chooser n m) where
+module _ (n m : ℕ) (O : Operations) where
   pub record Session : Type 0 where
     pub trail : Trail
-    pub chooser : C .State
+    pub chooser : O .State
 
   unfoldable pub fresh : Session
-  fresh = record { trail = freshTrail n; chooser = C .start }
+  fresh = record { trail = freshTrail n; chooser = O .start }
 
   -- 'Undone variables are offered to `insert`, last first.'
-  unfoldable pub offerAll : List ℕ → C .State → C .State
+  unfoldable pub offerAll : List ℕ → O .State → O .State
   offerAll [] c = c
-  offerAll (v ∷ vs) c = offerAll vs (C .offer v c)
+  offerAll (v ∷ vs) c = offerAll vs (O .offer v c)
 
   -- 'Going back is `backtrack_safe`: a level not below the present one changes nothing.'
   unfoldable pub wentBack : ℕ → Session → Session
@@ -58,27 +58,27 @@ module _ (n m : ℕ) (C : Chooser n m) where
   unfoldable pub enqueued : ℕ → ℕ → Session → Session
   enqueued code reason s = record { trail = enqAssignment code reason (s .trail); chooser = s .chooser }
 
-  abbrev pub withChooser : C .State → Session → Session
+  abbrev pub withChooser : O .State → Session → Session
   withChooser c s = record { trail = s .trail; chooser = c }
 
-  unfoldable pub tuned : Session → Option (C .State) → Result Session
+  unfoldable pub tuned : Session → Option (O .State) → Result Session
   tuned s none = refuse largeStep
   tuned s (some c) = done none (withChooser c s)
 
   -- 'Decide is `get_next` followed at once by `enq_decision`.'
-  unfoldable pub decided : ℕ → Session → Next (C .State) → Result Session
+  unfoldable pub decided : ℕ → Session → Next (O .State) → Result Session
   decided p s (chose v c) = done (some v) (record { trail = enqDecision v p (s .trail); chooser = c })
   decided p s (nothing c) = done none (withChooser c s)
   decided p s stuck = refuse pastOpen
 
   -- in either mode the arguments are tested first, in the order of document 01's list
   unfoldable pub call : Session → Call → Result Session
-  call s (bump v) = need (ltb v n) noVariable (tuned s (C .tune (bumpVariable v) (s .chooser)))
-  call s decay = tuned s (C .tune decayVarInc (s .chooser))
-  call s (setDecay d) = need (goodDecay d) badDecay (tuned s (C .tune (setVarDecay d) (s .chooser)))
-  call s (insert v) = need (ltb v n) noVariable (done none (withChooser (C .insert v (s .chooser)) s))
-  call s (switchOff v) = need (ltb v n) noVariable (done none (withChooser (C .turnOff v (s .chooser)) s))
-  call s (decide p) = need (ltb p 2) badPolarity (decided p s (C .getNext (s .trail .values) (s .chooser)))
+  call s (bump v) = need (ltb v n) noVariable (tuned s (O .tune (bumpVariable v) (s .chooser)))
+  call s decay = tuned s (O .tune decayVarInc (s .chooser))
+  call s (setDecay d) = need (goodDecay d) badDecay (tuned s (O .tune (setVarDecay d) (s .chooser)))
+  call s (insert v) = need (ltb v n) noVariable (done none (withChooser (O .insert v (s .chooser)) s))
+  call s (switchOff v) = need (ltb v n) noVariable (done none (withChooser (O .turnOff v (s .chooser)) s))
+  call s (decide p) = need (ltb p 2) badPolarity (decided p s (O .getNext (s .trail .values) (s .chooser)))
   call s (enqueue code reason) =
       need (ltb (index code) n) noVariable (
       need (goodReason m reason) badReason (
@@ -91,5 +91,5 @@ module _ (n m : ℕ) (C : Chooser n m) where
       done none (enqueued code NONE (wentBack 0 s))))
   -- 'The number undone is the trail's length before less that after'
   call s (goBack l) = done (some (s .trail .len - (wentBack l s) .trail .len)) (wentBack l s)
-  call s (bumpReason v) = need (ltb v n) noVariable (tuned s (C .tune (bumpReasonLiterals (getD (s .trail .reasons) v 0)) (s .chooser)))
-  call s (group vs) = need (below n vs) noVariable (tuned s (C .tune (bumpVecOfVars vs) (s .chooser)))
+  call s (bumpReason v) = need (ltb v n) noVariable (tuned s (O .tune (bumpReasonLiterals (getD (s .trail .reasons) v 0)) (s .chooser)))
+  call s (group vs) = need (below n vs) noVariable (tuned s (O .tune (bumpVecOfVars vs) (s .chooser)))
