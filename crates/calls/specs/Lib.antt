@@ -1,0 +1,3 @@
+-- Calls as code has them, and what an entry point answers.
+pub mod Calls
+pub mod Entry
