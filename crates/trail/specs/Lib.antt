@@ -1,2 +1,3 @@
 -- The trail of `trail.rs` as memory, its operations, and the facts of a good trail.
 pub mod Trail
+pub mod Memory
