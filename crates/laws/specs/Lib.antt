@@ -1,3 +1,6 @@
 -- Laws of tests and of lists, for every crate to cite.
 pub mod Tests
 pub mod Lists
+pub mod Choices
+pub mod Every
+pub mod Some

@@ -1,3 +1,6 @@
 -- The trail of `trail.rs` as memory, its operations, and the facts of a good trail.
 pub mod Trail
 pub mod Memory
+pub mod Good
+pub mod Check
+pub mod Checked
