@@ -4,3 +4,5 @@ pub mod Lists
 pub mod Choices
 pub mod Every
 pub mod Some
+pub mod Pigeonhole
+pub mod Prefix

@@ -46,14 +46,22 @@ module _ (p : ℕ → Bool) where
   unfolding some
   some-more i = rw add-one
 
-  -- where all below l pass and none from l on, there are l of them
-  pub count-below : (n l : ℕ) → l ≤ n → ((i : ℕ) → i < l → p i ≡ true) → ((i : ℕ) → l ≤ i → i < n → p i ≡ false) → count p n ≡ l
+  -- where all pass, all count; where none passes from l on, those below l count
+  pub count-all : (n : ℕ) → ((i : ℕ) → i < n → p i ≡ true) → count p n ≡ n
   unfolding count
-  count-below zero l h f g = omega arith
-  count-below (suc n) l h f g =
+  count-all zero f = refl
+  count-all (suc n) f = rw (f n (omega arith)) (ap suc (count-all n (λ i h. f i (omega arith))))
+
+  pub count-cut : (n l : ℕ) → l ≤ n → ((i : ℕ) → l ≤ i → i < n → p i ≡ false) → count p n ≡ count p l
+  unfolding count
+  count-cut zero l h g = let e : l ≡ 0 = omega arith in rw e
+  count-cut (suc n) l h g =
       by-cases (ℕ-discrete l (suc n))
-      (λ all. rw (f n (omega arith)) (ap suc (count-below n n (omega arith) (λ i b. f i (omega arith)) (λ i b c. absurd (omega arith))) ∙ sym all))
-      (λ less. rw (g n (omega arith) (omega arith)) (count-below n l (omega arith) f (λ i b c. g i b (omega arith))))
+      (λ e. rw e)
+      (λ less. rw (g n (omega arith) (omega arith)) (count-cut n l (omega arith) (λ i b c. g i b (omega arith))))
+
+  pub count-below : (n l : ℕ) → l ≤ n → ((i : ℕ) → i < l → p i ≡ true) → ((i : ℕ) → l ≤ i → i < n → p i ≡ false) → count p n ≡ l
+  count-below n l h f g = count-cut n l h g ∙ count-all l f
 
 -- counting goes by the tests alone
 pub count-same : (p q : ℕ → Bool) (n : ℕ) → ((i : ℕ) → i < n → p i ≡ q i) → count p n ≡ count q n
