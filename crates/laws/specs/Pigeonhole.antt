@@ -26,11 +26,11 @@ fewer n k f d = record {
       (λ e. omega (arith, eqb-false (f i) n e, d .below i (omega arith)));
   once = λ i j b h. cond-elim (λ (x : ℕ). x ≢ instead f n k j) (eqb (f i) n)
       (λ e. cond-elim (λ (y : ℕ). f k ≢ y) (eqb (f j) n)
-        (λ q _. d .once i j b (omega arith) (eqb-true (f i) n e ∙ sym (eqb-true (f j) n q)))
-        (λ q z. d .once j k h (omega arith) (sym z)))
+      (λ q _. d .once i j b (omega arith) (eqb-true (f i) n e ∙ sym (eqb-true (f j) n q)))
+      (λ q z. d .once j k h (omega arith) (sym z)))
       (λ e. cond-elim (λ (y : ℕ). f i ≢ y) (eqb (f j) n)
-        (λ q. d .once i k (omega arith) (omega arith))
-        (λ q. d .once i j b (omega arith)));
+      (λ q. d .once i k (omega arith) (omega arith))
+      (λ q. d .once i j b (omega arith)));
 }
 
 pub pigeonhole : (n k : ℕ) (f : ℕ → ℕ) → Distinct n k f → k ≤ n

@@ -15,7 +15,7 @@ module _ {A : Type 0} (n k : ℕ) (l u : List A) (x d : A) where
       let r = replicate (n - k) x in
       let z : length (take k l) ≡ k = length-take-le k l (omega arith) in
       ext-getD d u (take k l ++ r) (omega (arith, length-append (take k l) r, length-replicate (n - k) x)) (λ i b. by-cases (decLt i k)
-        (λ c. f i c ∙ sym (List·getD-append (take k l) r d i (omega arith) ∙ getD-take k l i d c))
-        (λ c.
-          let j : i ≡ length (take k l) + (i - k) = omega arith in
-          g i (omega arith) (omega arith) ∙ sym (ap (λ (y : ℕ). getD (take k l ++ r) y d) j ∙ getD-append-add (take k l) r (i - k) d ∙ getD-replicate (n - k) (i - k) x d (omega arith))))
+      (λ c. f i c ∙ sym (List·getD-append (take k l) r d i (omega arith) ∙ getD-take k l i d c))
+      (λ c.
+      let j : i ≡ length (take k l) + (i - k) = omega arith in
+      g i (omega arith) (omega arith) ∙ sym (ap (λ (y : ℕ). getD (take k l ++ r) y d) j ∙ getD-append-add (take k l) r (i - k) d ∙ getD-replicate (n - k) (i - k) x d (omega arith))))

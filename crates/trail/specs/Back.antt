@@ -52,13 +52,13 @@ module _ {n m l : ℕ} {t : Trail} (g : GoodTrail n m t) (h : l < t .level) wher
     trail-unused = s .trail-unused;
   }
 
-  back-kept : Kept n (openedAt t l) l t (backtrackTo l t)
+  pub back-kept : Kept n (openedAt t l) l t (backtrackTo l t)
   unfolding backtrackTo rewind
   back-kept =
       let b = backsteps (howMany l t) t in
       let steps : Kept n (openedAt t l) (t .level) t b = steps-kept (howMany l t) (openedAt t l) t (stack g) (g .opened-unused) (omega (arith, g .below l h)) in
       let closed : Kept n (openedAt t l) l b (closeLevels (t .level - l) b) =
-        close-kept (t .level - l) (openedAt t l) l b (backsteps-stack (howMany l t) (stack g) enough) (λ k c. steps .opened-unused k (omega (arith, steps .level-is))) (omega (arith, steps .level-is, g .level-in)) (steps .len-is) (omega (arith, steps .level-is)) in
+      close-kept (t .level - l) (openedAt t l) l b (backsteps-stack (howMany l t) (stack g) enough) (λ k c. steps .opened-unused k (omega (arith, steps .level-is))) (omega (arith, steps .level-is, g .level-in)) (steps .len-is) (omega (arith, steps .level-is)) in
       let all = kept-kept (omega arith) (omega arith) steps closed in
       record {
         len-is = all .len-is;
@@ -77,8 +77,8 @@ module _ {n m l : ℕ} {t : Trail} (g : GoodTrail n m t) (h : l < t .level) wher
       let k = back-kept in
       count-cut (λ j. leb (openedAt t j) i) (t .level) l (omega arith)
       (λ j c d. by-cases (ℕ-discrete l j)
-        (λ e. rw (← e) (lt-leb (openedAt t l) i b))
-        (λ e. lt-leb (openedAt t j) i (omega (arith, g .rising l j (omega arith) d))))
+      (λ e. rw (← e) (lt-leb (openedAt t l) i b))
+      (λ e. lt-leb (openedAt t j) i (omega (arith, g .rising l j (omega arith) d))))
       ∙ count-same (λ j. leb (openedAt t j) i) (λ j. leb (openedAt (backtrackTo l t) j) i) l (λ j c. rw (k .opens j c))
 
   back-curr : backtrackTo l t .curr ≡ backtrackTo l t .len
@@ -120,10 +120,10 @@ module _ {n m l : ℕ} {t : Trail} (g : GoodTrail n m t) (h : l < t .level) wher
       let k = back-kept in
       let place : (i : ℕ) → i < openedAt t l → i < backtrackTo l t .len = λ i b. omega (arith, k .len-is) in
       let gone : (v : ℕ) → v < n → ((i : ℕ) → i < openedAt t l → varAt t i ≢ v) → valueAt (backtrackTo l t) v ≡ unassigned = λ v b f.
-        by-cases (ℕ-discrete (valueAt (backtrackTo l t) v) unassigned) (λ e. e) (λ e.
-          let w = s .held v b e in
-          let c : w .0 < openedAt t l = omega (arith, w .1 .0, k .len-is) in
-          absurd (f (w .0) c (sym (ap index (k .codes (w .0) c)) ∙ w .1 .1))) in
+      by-cases (ℕ-discrete (valueAt (backtrackTo l t) v) unassigned) (λ e. e) (λ e.
+      let w = s .held v b e in
+      let c : w .0 < openedAt t l = omega (arith, w .1 .0, k .len-is) in
+      absurd (f (w .0) c (sym (ap index (k .codes (w .0) c)) ∙ w .1 .1))) in
       record {
         len-is = k .len-is;
         level-is = k .level-is;

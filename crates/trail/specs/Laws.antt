@@ -129,8 +129,8 @@ module _ {n m : ℕ} {t : Trail} (g : GoodTrail n m t) (c v p r lv : ℕ) (o : L
         held = λ u h e. by-cases (ℕ-discrete u v)
             (λ q. (t .len, (omega arith, ap index (getD-set-same (t .trail) (t .len) c 0 (omega arith)) ∙ var-is ∙ sym q)))
             (λ q.
-              let s = g .held u h (λ z. e (getD-set-other (t .values) v u p 0 q ∙ z)) in
-              (s .0, (omega (arith, s .1 .0), ap index (getD-set-other (t .trail) (t .len) (s .0) c 0 (omega (arith, s .1 .0))) ∙ s .1 .1)));
+            let s = g .held u h (λ z. e (getD-set-other (t .values) v u p 0 q ∙ z)) in
+            (s .0, (omega (arith, s .1 .0), ap index (getD-set-other (t .trail) (t .len) (s .0) c 0 (omega (arith, s .1 .0))) ∙ s .1 .1)));
         once = λ i j b h. rw (getD-set-other (t .trail) (t .len) i c 0 (omega arith)) (set-cases (λ (x : ℕ). varAt t i ≢ index x) (t .trail) (t .len) j c 0 (omega arith)
             (λ _. rw var-is (other i (omega arith)))
             (λ e. g .once i j b (omega arith)));

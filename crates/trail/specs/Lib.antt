@@ -7,3 +7,4 @@ pub mod Checked
 pub mod Laws
 pub mod Undoing
 pub mod Back
+pub mod Since
