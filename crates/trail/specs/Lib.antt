@@ -8,3 +8,4 @@ pub mod Laws
 pub mod Undoing
 pub mod Back
 pub mod Since
+pub mod Undone
