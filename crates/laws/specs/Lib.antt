@@ -1,4 +1,8 @@
 -- Laws of tests and of lists, for every crate to cite.
 pub mod Tests
+pub mod Choices
 pub mod Lists
 pub mod Every
+pub mod Some
+pub mod Pigeonhole
+pub mod Prefix

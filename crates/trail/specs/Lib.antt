@@ -1,2 +1,11 @@
 -- The trail of `trail.rs` as memory, its operations, and the facts of a good trail.
 pub mod Trail
+pub mod Memory
+pub mod Good
+pub mod Check
+pub mod Checked
+pub mod Laws
+pub mod Undoing
+pub mod Back
+pub mod Since
+pub mod Undone

@@ -1,1 +1,247 @@
-// The trail.
+// The trail of trail.rs over lent slices of length N: for each variable its value, level and reason; the literals on the
+// trail; and for each opened level the trail's length before its decision. Unused places hold NONE.
+ghost use mathlib.Core.Path.{_≡_};
+ghost use Prim.Native.Nat.{ℕ, _-_, _≤_, _<_};
+ghost use mathlib.Core.List.{List};
+ghost use lib.ListN.{length, replicate};
+ghost use Rattle.lit.specs.Numbers as number;
+ghost use Rattle.lit.specs.Lits as lits;
+ghost use Rattle.trail.specs.Trail as spec;
+ghost use Rattle.trail.specs.Memory.{trailOf, Lengths, Room, Levelled};
+use lit::NONE;
+use lit::UNASSIGNED;
+
+pub mod check;
+
+// How many places of the trail and of the opened levels are in use, and `curr_i`.
+pub struct TrailState {
+    pub len: u32,
+    pub level: u32,
+    pub curr_i: u32,
+}
+
+// Fills a slice with NONE.
+fn fill_none(a: &mut [u32])
+    ensures { λ _. ⌜ now (a .exit) ≡ replicate (length (now (a .entry))) number.NONE ⌝ }
+{
+    let mut i = 0;
+    while i < a.len() {
+        a[i] = NONE;
+        i += 1;
+    }
+}
+
+// A fresh trail: nothing is assigned, no level is open.
+pub fn new_trail(
+    values: &mut [u8],
+    levels: &mut [u32],
+    reasons: &mut [u32],
+    trail: &mut [u32],
+    opened: &mut [u32],
+) -> TrailState
+    requires { ⌜ Lengths (length (now values)) (now values) (now levels) (now reasons) (now trail) (now opened) ⌝ }
+    ensures { λ r. ⌜ trailOf (now (values .exit)) (now (levels .exit)) (now (reasons .exit)) (now (trail .exit)) (now (opened .exit)) r ≡ spec.freshTrail (length (now (values .entry))) ⌝ }
+{
+    lit::new_assignments(values);
+    fill_none(levels);
+    fill_none(reasons);
+    fill_none(trail);
+    fill_none(opened);
+    TrailState {
+        len: 0,
+        level: 0,
+        curr_i: 0,
+    }
+}
+
+// Puts a literal on the trail at the present level, with a reason: a clause number or NONE.
+pub fn enq_assignment(
+    values: &mut [u8],
+    levels: &mut [u32],
+    reasons: &mut [u32],
+    trail: &mut [u32],
+    opened: &[u32],
+    s: TrailState,
+    code: u32,
+    reason: u32,
+) -> TrailState
+    requires { ⌜ Room (length (now values)) (trailOf (now values) (now levels) (now reasons) (now trail) (now opened) s) ⌝ }
+    requires { ⌜ (s .len < length (now values)) × (lits.index code < length (now values)) ⌝ }
+    ensures { λ r. ⌜ trailOf (now (values .exit)) (now (levels .exit)) (now (reasons .exit)) (now (trail .exit)) (now (opened .entry)) r
+        ≡ spec.enqAssignment code reason (trailOf (now (values .entry)) (now (levels .entry)) (now (reasons .entry)) (now (trail .entry)) (now (opened .entry)) s) ⌝ }
+{
+    let v = lit::index(code) as usize;
+    let at = s.len as usize;
+    reasons[v] = reason;
+    levels[v] = s.level;
+    lit::set_assignment(values, code);
+    trail[at] = code;
+    TrailState {
+        len: s.len + 1,
+        level: s.level,
+        curr_i: s.curr_i,
+    }
+}
+
+// Opens a level and puts the literal of a variable with a polarity on the trail as its decision.
+pub fn enq_decision(
+    values: &mut [u8],
+    levels: &mut [u32],
+    reasons: &[u32],
+    trail: &mut [u32],
+    opened: &mut [u32],
+    s: TrailState,
+    v: u32,
+    p: u8,
+) -> TrailState
+    requires { ⌜ Room (length (now values)) (trailOf (now values) (now levels) (now reasons) (now trail) (now opened) s) ⌝ }
+    requires { ⌜ (s .len < length (now values)) × ((s .level < length (now values)) × ((v < length (now values)) × (p < 2))) ⌝ }
+    ensures { λ r. ⌜ trailOf (now (values .exit)) (now (levels .exit)) (now (reasons .entry)) (now (trail .exit)) (now (opened .exit)) r
+        ≡ spec.enqDecision v p (trailOf (now (values .entry)) (now (levels .entry)) (now (reasons .entry)) (now (trail .entry)) (now (opened .entry)) s) ⌝ }
+{
+    let i = v as usize;
+    let at = s.len as usize;
+    let open = s.level as usize;
+    opened[open] = s.len;
+    levels[i] = s.level + 1;
+    values[i] = p;
+    trail[at] = lit::new(v, p);
+    TrailState {
+        len: s.len + 1,
+        level: s.level + 1,
+        curr_i: s.curr_i,
+    }
+}
+
+// Takes the last literal off the trail: its variable becomes unassigned and has no reason. Its level stays, unread.
+fn backstep(
+    values: &mut [u8],
+    levels: &[u32],
+    reasons: &mut [u32],
+    trail: &mut [u32],
+    opened: &[u32],
+    s: TrailState,
+) -> TrailState
+    requires { ⌜ Room (length (now values)) (trailOf (now values) (now levels) (now reasons) (now trail) (now opened) s) ⌝ }
+    requires { ⌜ 0 < s .len ⌝ }
+    ensures { λ r. ⌜ trailOf (now (values .exit)) (now (levels .entry)) (now (reasons .exit)) (now (trail .exit)) (now (opened .entry)) r
+        ≡ spec.backstep (trailOf (now (values .entry)) (now (levels .entry)) (now (reasons .entry)) (now (trail .entry)) (now (opened .entry)) s) ⌝ }
+{
+    let at = (s.len - 1) as usize;
+    let v = lit::index(trail[at]) as usize;
+    values[v] = UNASSIGNED;
+    reasons[v] = NONE;
+    trail[at] = NONE;
+    TrailState {
+        len: s.len - 1,
+        level: s.level,
+        curr_i: s.curr_i,
+    }
+}
+
+// Takes the last k literals off the trail.
+fn backsteps(
+    values: &mut [u8],
+    levels: &[u32],
+    reasons: &mut [u32],
+    trail: &mut [u32],
+    opened: &[u32],
+    s: TrailState,
+    k: u32,
+) -> TrailState
+    requires { ⌜ Room (length (now values)) (trailOf (now values) (now levels) (now reasons) (now trail) (now opened) s) ⌝ }
+    requires { ⌜ k ≤ s .len ⌝ }
+    ensures { λ r. ⌜ trailOf (now (values .exit)) (now (levels .entry)) (now (reasons .exit)) (now (trail .exit)) (now (opened .entry)) r
+        ≡ spec.backsteps k (trailOf (now (values .entry)) (now (levels .entry)) (now (reasons .entry)) (now (trail .entry)) (now (opened .entry)) s) ⌝ }
+{
+    let mut t = s;
+    let mut i = 0;
+    while i < k {
+        t = backstep(values, levels, reasons, trail, opened, t);
+        i += 1;
+    }
+    t
+}
+
+// Closes the levels above l.
+fn close_levels(opened: &mut [u32], s: TrailState, l: u32) -> TrailState
+    requires { ⌜ (s .level ≤ length (now opened)) × (l ≤ s .level) ⌝ }
+    ensures { λ r. ⌜ ((values levels reasons trail : List ℕ) → trailOf values levels reasons trail (now (opened .exit)) r
+        ≡ spec.closeLevels (s .level - l) (trailOf values levels reasons trail (now (opened .entry)) s)) ⌝ }
+{
+    let mut level = s.level;
+    while l < level {
+        level -= 1;
+        opened[level as usize] = NONE;
+    }
+    TrailState {
+        len: s.len,
+        level: level,
+        curr_i: s.curr_i,
+    }
+}
+
+// Goes back to a level below the present one. The literals that this undoes are those of the trail from place opened[level]
+// on: a chooser is to be offered them first, from the last one down.
+pub fn backtrack_to(
+    values: &mut [u8],
+    levels: &[u32],
+    reasons: &mut [u32],
+    trail: &mut [u32],
+    opened: &mut [u32],
+    s: TrailState,
+    level: u32,
+) -> TrailState
+    requires { ⌜ Levelled (length (now values)) (trailOf (now values) (now levels) (now reasons) (now trail) (now opened) s) ⌝ }
+    requires { ⌜ level < s .level ⌝ }
+    ensures { λ r. ⌜ trailOf (now (values .exit)) (now (levels .entry)) (now (reasons .exit)) (now (trail .exit)) (now (opened .exit)) r
+        ≡ spec.backtrackTo level (trailOf (now (values .entry)) (now (levels .entry)) (now (reasons .entry)) (now (trail .entry)) (now (opened .entry)) s) ⌝ }
+{
+    let how_many = s.len - opened[level as usize];
+    let t = backsteps(values, levels, reasons, trail, opened, s, how_many);
+    let u = close_levels(opened, t, level);
+    TrailState {
+        len: u.len,
+        level: u.level,
+        curr_i: u.len,
+    }
+}
+
+// Goes back to a level if it is below the present one.
+pub fn backtrack_safe(
+    values: &mut [u8],
+    levels: &[u32],
+    reasons: &mut [u32],
+    trail: &mut [u32],
+    opened: &mut [u32],
+    s: TrailState,
+    level: u32,
+) -> TrailState
+    requires { ⌜ Levelled (length (now values)) (trailOf (now values) (now levels) (now reasons) (now trail) (now opened) s) ⌝ }
+    ensures { λ r. ⌜ trailOf (now (values .exit)) (now (levels .entry)) (now (reasons .exit)) (now (trail .exit)) (now (opened .exit)) r
+        ≡ spec.backtrackSafe level (trailOf (now (values .entry)) (now (levels .entry)) (now (reasons .entry)) (now (trail .entry)) (now (opened .entry)) s) ⌝ }
+{
+    if level < s.level {
+        return backtrack_to(values, levels, reasons, trail, opened, s, level);
+    }
+    s
+}
+
+// Goes back to level 0 and puts a literal on the trail there, without a reason.
+pub fn learn_unit(
+    values: &mut [u8],
+    levels: &mut [u32],
+    reasons: &mut [u32],
+    trail: &mut [u32],
+    opened: &mut [u32],
+    s: TrailState,
+    code: u32,
+) -> TrailState
+    requires { ⌜ Levelled (length (now values)) (trailOf (now values) (now levels) (now reasons) (now trail) (now opened) s) ⌝ }
+    requires { ⌜ (spec.backtrackSafe 0 (trailOf (now values) (now levels) (now reasons) (now trail) (now opened) s) .len < length (now values)) × (lits.index code < length (now values)) ⌝ }
+    ensures { λ r. ⌜ trailOf (now (values .exit)) (now (levels .exit)) (now (reasons .exit)) (now (trail .exit)) (now (opened .exit)) r
+        ≡ spec.learnUnit code (trailOf (now (values .entry)) (now (levels .entry)) (now (reasons .entry)) (now (trail .entry)) (now (opened .entry)) s) ⌝ }
+{
+    let t = backtrack_safe(values, levels, reasons, trail, opened, s, 0);
+    enq_assignment(values, levels, reasons, trail, opened, t, code, NONE)
+}

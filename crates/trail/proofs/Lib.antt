@@ -1,0 +1,4 @@
+-- Lemmas that the proofs of the trail's functions cite.
+pub mod Going
+pub mod Marks
+pub mod Climb
