@@ -1,0 +1,3 @@
+-- The move-to-front list of `VMTF` as memory, its operations, and the facts of a good list.
+pub mod Vmtf
+pub mod Laws

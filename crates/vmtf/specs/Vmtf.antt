@@ -1,0 +1,141 @@
+-- The move-to-front list's memory and the steps of `VMTF` in `decision.rs` on it: plain writes to three lists of length N and three
+-- numbers. NONE marks no variable.
+use Prim.Native.Nat.{ℕ, zero, suc, _+_, _<_, _≤_}
+use mathlib.Core.Path.{_≡_}
+use mathlib.Core.Logic.{_≢_}
+use mathlib.Core.Bool.{Bool, true, false, cond, _||_}
+use mathlib.Core.List.{List, [], _∷_}
+use lib.ListN.{length, getD, set}
+use lib.Dec.{leb, eqb}
+use Rattle.lit.specs.Numbers.{NONE, unassigned}
+use Rattle.vmtf.specs.declared.VmtfState.{VmtfState}
+use Rattle.vmtf.specs.declared.Next.{Next}
+use Rattle.vmtf.specs.declared.Next.the-variants.{Chose, Nothing, Stuck}
+
+pub record Vmtf : Type 0 where
+  -- `linked_list`: for each variable the one after it, the one before it, and its stamp
+  pub next : List ℕ
+  pub prev : List ℕ
+  pub ts : List ℕ
+  -- the front, where a decide starts to look, and the next stamp
+  pub start : ℕ
+  pub search : ℕ
+  pub timestamp : ℕ
+
+abbrev pub vmtfOf : List ℕ → List ℕ → List ℕ → VmtfState → Vmtf
+vmtfOf next prev ts s = record {
+  next = next;
+  prev = prev;
+  ts = ts;
+  start = s .start;
+  search = s .search;
+  timestamp = s .timestamp;
+}
+
+-- `usize::MAX` of the source as a stamp, in 64 bits
+abbrev pub maxStamp : ℕ
+maxStamp = 18446744073709551615
+
+-- the loop of `rescore`: from curr on along the next links, the stamps score, score - 1, ..
+unfoldable pub renumber : List ℕ → ℕ → ℕ → List ℕ → List ℕ
+renumber next zero curr ts = cond (eqb curr NONE) ts (set ts curr 0)
+renumber next (suc k) curr ts =
+    let r = renumber next k (getD next curr 0) (set ts curr (suc k)) in
+    cond (eqb curr NONE) ts r
+
+-- `rescore`
+unfoldable pub rescore : Vmtf → Vmtf
+rescore l = record {
+  next = l .next;
+  prev = l .prev;
+  ts = renumber (l .next) (length (l .next)) (l .start) (l .ts);
+  start = l .start;
+  search = l .search;
+  timestamp = length (l .next) + 1;
+}
+
+-- `move_to_front` of a variable that is not at the front: the links around it close, it gets the next stamp and stands before the front
+unfoldable pub relink : ℕ → Vmtf → Vmtf
+relink v l =
+    let before = getD (l .prev) v 0 in
+    let after = getD (l .next) v 0 in
+    let prev = set (set (l .prev) v NONE) (l .start) v in
+    record {
+      next = set (set (l .next) v (l .start)) before after;
+      prev = cond (eqb after NONE) prev (set prev after before);
+      ts = set (l .ts) v (l .timestamp);
+      start = v;
+      search = l .search;
+      timestamp = l .timestamp;
+    }
+
+-- its end: the next timestamp, or `rescore` after the largest stamp
+unfoldable pub tick : Vmtf → Vmtf
+tick l = cond (eqb (l .timestamp) maxStamp) (rescore l) (record {
+  next = l .next;
+  prev = l .prev;
+  ts = l .ts;
+  start = l .start;
+  search = l .search;
+  timestamp = l .timestamp + 1;
+})
+
+-- `move_to_front`: a variable at the front is left as it is
+unfoldable pub moveToFront : ℕ → Vmtf → Vmtf
+moveToFront v l = cond (eqb v (l .start)) l (tick (relink v l))
+
+-- an open variable is unassigned
+unfoldable pub isOpen : List ℕ → ℕ → Bool
+isOpen values v = leb unassigned (getD values v 0)
+
+-- the variables from curr on along the next links, at most k
+unfoldable pub from : List ℕ → ℕ → ℕ → List ℕ
+from next zero curr = []
+from next (suc k) curr = let r = curr ∷ from next k (getD next curr 0) in cond (eqb curr NONE) [] r
+
+-- the first open variable of a list, or NONE
+unfoldable pub firstOpen : List ℕ → List ℕ → ℕ
+firstOpen values [] = NONE
+firstOpen values (v ∷ vs) = cond (isOpen values v) v (firstOpen values vs)
+
+-- the second loop of `get_next`: some variable below n is open
+unfoldable pub anyOpen : List ℕ → ℕ → Bool
+anyOpen values zero = false
+anyOpen values (suc n) = anyOpen values n || isOpen values n
+
+-- `get_next`: the first open variable from search on, with search at the one after it. Where there is none but some variable is open
+-- the source panics
+unfoldable pub getNext : List ℕ → Vmtf → Next
+getNext values l =
+    let v = firstOpen values (from (l .next) (length (l .next)) (l .search)) in
+    cond (eqb v NONE) (cond (anyOpen values (length values)) Stuck Nothing) (Chose (record {
+      start = l .start;
+      search = getD (l .next) v 0;
+      timestamp = l .timestamp;
+    }) v)
+
+-- What safety needs of a walk along the next links from curr: links are variables or NONE.
+pub record Links (n : ℕ) (next : List ℕ) (curr : ℕ) : Type 0 where
+  pub next-long : length next ≡ n
+  pub next-in : (v : ℕ) → v < n → getD next v 0 ≢ NONE → getD next v 0 < n
+  pub curr-in : curr ≢ NONE → curr < n
+
+-- What safety needs of a list of n variables: each variable but the front has one before it.
+pub record Safe (n : ℕ) (l : Vmtf) : Type 0 where
+  pub links : Links n (l .next) (l .start)
+  pub prev-long : length (l .prev) ≡ n
+  pub ts-long : length (l .ts) ≡ n
+  pub prev-in : (v : ℕ) → v < n → v ≢ l .start → getD (l .prev) v 0 < n
+  pub front : 0 < n → l .start < n
+
+-- `vs` are the variables from curr on along the next links, and NONE comes after the last
+unfoldable pub Chain : List ℕ → ℕ → List ℕ → Type 0
+Chain next curr [] = curr ≡ NONE
+Chain next curr (v ∷ vs) = (curr ≡ v) × (v < length next) × Chain next (getD next v 0) vs
+
+-- What a walk to the end needs: from curr on the next links lead to NONE.
+pub record Ends (next : List ℕ) (curr : ℕ) : Type 0 where
+  pub rest : List ℕ
+  pub chain : Chain next curr rest
+  pub short : length rest ≤ length next
+  pub small : length next ≤ NONE

@@ -1,0 +1,184 @@
+// The move-to-front list of variables, from `VMTF` in decision.rs, over lent slices: for each variable the one after it, the one before
+// it and its stamp.
+ghost use mathlib.Core.Path.{_≡_};
+ghost use mathlib.Core.Logic.{_≢_};
+ghost use mathlib.Core.List.{List};
+ghost use Prim.Native.Nat.{ℕ, _+_, _<_, _≤_};
+ghost use lib.ListN.{length, getD, set};
+ghost use Rattle.lit.specs.Numbers.{NONE as none};
+ghost use Rattle.vmtf.specs.Vmtf as spec;
+ghost use Rattle.vmtf.specs.Vmtf.{vmtfOf, Links, Safe, Ends};
+use lit::NONE;
+use lit::UNASSIGNED;
+
+// The largest stamp.
+const MAX_STAMP: u64 = 18446744073709551615;
+
+// The front, where a decide starts to look, and the next stamp.
+pub struct VmtfState {
+    pub start: u32,
+    pub search: u32,
+    pub timestamp: u64,
+}
+
+// What a decide finds: a variable with the state after it; no unassigned variable; or none from search on, though there is one.
+pub enum Next {
+    Chose(VmtfState, u32),
+    Nothing,
+    Stuck,
+}
+
+// Whether the variable may be decided: it is unassigned.
+pub fn is_open(values: &[u8], v: u32) -> bool
+    requires { ⌜ v < length (now values) ⌝ }
+    ensures { λ r. ⌜ r ≡ spec.isOpen (now (values .entry)) v ⌝ }
+{
+    values[v as usize] >= UNASSIGNED
+}
+
+// Stamps the variables from start on along the next links, as many as there are down to 1.
+fn renumber(next: &[u32], ts: &mut [u64], start: u32)
+    requires { ⌜ Links (length (now ts)) (now next) start ⌝ }
+    ensures { λ _. ⌜ now (ts .exit) ≡ spec.renumber (now (next .entry)) (length (now (next .entry))) start (now (ts .entry)) ⌝ }
+{
+    let mut score = next.len();
+    let mut curr = start;
+    while curr != NONE {
+        ts[curr as usize] = score as u64;
+        if score == 0 {
+            return;
+        }
+        score -= 1;
+        curr = next[curr as usize];
+    }
+}
+
+// Stamps the whole list anew, so that stamps are small again. It leaves the links before a variable, whatever they are.
+pub fn rescore(next: &[u32], ts: &mut [u64], s: VmtfState) -> VmtfState
+    requires { ⌜ Links (length (now ts)) (now next) (s .start) ⌝ }
+    ensures { λ r. ⌜ ((prev : List ℕ) → vmtfOf (now (next .entry)) prev (now (ts .exit)) r ≡ spec.rescore (vmtfOf (now (next .entry)) prev (now (ts .entry)) s)) ⌝ }
+{
+    renumber(next, ts, s.start);
+    VmtfState {
+        start: s.start,
+        search: s.search,
+        timestamp: next.len() as u64 + 1,
+    }
+}
+
+// Takes v, which is not at the front, out of the links and puts it before the front, with the next stamp.
+fn relink(next: &mut [u32], prev: &mut [u32], ts: &mut [u64], s: VmtfState, v: u32) -> VmtfState
+    requires { ⌜ Safe (length (now next)) (vmtfOf (now next) (now prev) (now ts) s) ⌝ }
+    requires { ⌜ (v < length (now next)) × (v ≢ s .start) ⌝ }
+    ensures { λ r. ⌜ vmtfOf (now (next .exit)) (now (prev .exit)) (now (ts .exit)) r
+        ≡ spec.relink v (vmtfOf (now (next .entry)) (now (prev .entry)) (now (ts .entry)) s) ⌝ }
+{
+    let start = s.start;
+    let before = prev[v as usize];
+    let after = next[v as usize];
+    prev[v as usize] = NONE;
+    next[v as usize] = start;
+    ts[v as usize] = s.timestamp;
+    prev[start as usize] = v;
+    next[before as usize] = after;
+    if after != NONE {
+        prev[after as usize] = before;
+    }
+    VmtfState {
+        start: v,
+        search: s.search,
+        timestamp: s.timestamp,
+    }
+}
+
+// The next timestamp; after the largest stamp the list is stamped anew.
+fn tick(next: &[u32], ts: &mut [u64], s: VmtfState) -> VmtfState
+    requires { ⌜ Links (length (now ts)) (now next) (s .start) ⌝ }
+    ensures { λ r. ⌜ ((prev : List ℕ) → vmtfOf (now (next .entry)) prev (now (ts .exit)) r ≡ spec.tick (vmtfOf (now (next .entry)) prev (now (ts .entry)) s)) ⌝ }
+{
+    if s.timestamp == MAX_STAMP {
+        return rescore(next, ts, s);
+    }
+    VmtfState {
+        start: s.start,
+        search: s.search,
+        timestamp: s.timestamp + 1,
+    }
+}
+
+// Moves a variable to the front with a new stamp, unless it is there.
+pub fn move_to_front(
+    next: &mut [u32],
+    prev: &mut [u32],
+    ts: &mut [u64],
+    s: VmtfState,
+    tomove: u32,
+) -> VmtfState
+    requires { ⌜ Safe (length (now next)) (vmtfOf (now next) (now prev) (now ts) s) ⌝ }
+    requires { ⌜ tomove < length (now next) ⌝ }
+    ensures { λ r. ⌜ vmtfOf (now (next .exit)) (now (prev .exit)) (now (ts .exit)) r
+        ≡ spec.moveToFront tomove (vmtfOf (now (next .entry)) (now (prev .entry)) (now (ts .entry)) s) ⌝ }
+{
+    if tomove == s.start {
+        return s;
+    }
+    let moved = relink(next, prev, ts, s, tomove);
+    tick(next, ts, moved)
+}
+
+// The first open variable along the next links from curr on, or NONE.
+fn first_open(next: &[u32], values: &[u8], search: u32) -> u32
+    requires { ⌜ Ends (now next) search ⌝ }
+    requires { ⌜ length (now values) ≡ length (now next) ⌝ }
+    ensures { λ r. ⌜ r ≡ spec.firstOpen (now (values .entry)) (spec.from (now (next .entry)) (length (now (next .entry))) search) ⌝ }
+{
+    let mut curr = search;
+    let found = loop {
+        if curr == NONE {
+            break NONE;
+        }
+        if is_open(values, curr) {
+            break curr;
+        }
+        curr = next[curr as usize];
+    };
+    found
+}
+
+// Whether any variable is open.
+fn any_open(values: &[u8]) -> bool
+    requires { ⌜ length (now values) ≤ none ⌝ }
+    ensures { λ r. ⌜ r ≡ spec.anyOpen (now (values .entry)) (length (now (values .entry))) ⌝ }
+{
+    let mut i: u32 = 0;
+    while (i as usize) < values.len() {
+        if is_open(values, i) {
+            return true;
+        }
+        i += 1;
+    }
+    false
+}
+
+// Takes the first open variable from search on, and leaves search at the one after it.
+pub fn get_next(next: &[u32], values: &[u8], s: VmtfState) -> Next
+    requires { ⌜ Ends (now next) (s .search) ⌝ }
+    requires { ⌜ length (now values) ≡ length (now next) ⌝ }
+    ensures { λ r. ⌜ ((prev ts : List ℕ) → r ≡ spec.getNext (now (values .entry)) (vmtfOf (now (next .entry)) prev ts s)) ⌝ }
+{
+    let found = first_open(next, values, s.search);
+    if found == NONE {
+        if any_open(values) {
+            return Next::Stuck;
+        }
+        return Next::Nothing;
+    }
+    Next::Chose(
+        VmtfState {
+            start: s.start,
+            search: next[found as usize],
+            timestamp: s.timestamp,
+        },
+        found,
+    )
+}
