@@ -7,13 +7,93 @@ use mathlib.Core.Bool.{Bool, true, false, cond, _||_}
 use mathlib.Core.List.{List, [], _∷_}
 use native.Mathlib.Omega.{arith}
 use native.Mathlib.Decide.{ℕ-discrete}
-use lib.ListN.{length, getD, set, length-set}
+use native.Mathlib.Numerals.{add-one}
+use lib.ListN.{length, getD, set, drop, replicate, length-set, length-drop, length-replicate, drop-of-length-le}
+use lib.Seq.{drop-cons, getD-drop}
 use lib.Dec.{eqb}
 use borrow.Author.Tests.{eq-eqb, ne-eqb, eqb-false}
 use Rattle.lit.specs.Numbers.{NONE}
+use Rattle.lit.specs.Lits.{index}
 use Rattle.laws.specs.Tests.{cond-elim}
 use Rattle.laws.specs.Lists.{set-cases}
-use Rattle.vmtf.specs.Vmtf.{Vmtf, maxStamp, renumber, rescore, relink, tick, moveToFront, isOpen, from, firstOpen, anyOpen, Links, Safe, Chain, Ends}
+use Rattle.laws.specs.InPlace.{upTo, length-upTo, getD-upTo}
+use Rattle.util.specs.Pairs.{SamePairs, stood}
+use Rattle.util.specs.SortReverse.{sortReverse}
+use Rattle.util.specs.Falling.{sort-permutes}
+use Rattle.vmtf.specs.Vmtf.{Vmtf, maxStamp, countLits, litOrder, first, linked, linkFrom, makeLinkedList, renumber, rescore, relink, tick, moveToFront, isOpen, from, firstOpen, anyOpen, Links, Safe, Chain, Ends, Ordering}
+
+-- ---- lists place by place
+
+-- what is left of a list at place i
+pub drop-next : (l : List ℕ) (i : ℕ) → i < length l → drop i l ≡ getD l i 0 ∷ drop (i + 1) l
+drop-next l i h = rw (add-one, drop-cons l i 0)
+
+-- at a place of the list the default does not matter
+pub getD-any : (l : List ℕ) (i a b : ℕ) → i < length l → getD l i a ≡ getD l i b
+getD-any [] i a b h = absurd (omega arith)
+getD-any (x ∷ l) zero a b h = refl
+getD-any (x ∷ l) (suc i) a b h = getD-any l i a b (omega arith)
+
+-- ---- the loops of `new` and `make_linked_list`
+
+pub count-step : (counts codes : List ℕ) (i v : ℕ) → v ≡ index (getD codes i 0) → i < length codes
+    → countLits counts (drop i codes) ≡ countLits (set counts v (getD counts v 0 + 1)) (drop (i + 1) codes)
+unfolding countLits
+count-step counts codes i v e h = rw (drop-next codes i h, e)
+
+pub count-end : (counts codes : List ℕ) (i : ℕ) → length codes ≤ i → countLits counts (drop i codes) ≡ counts
+unfolding countLits
+count-end counts codes i h = rw (drop-of-length-le codes h)
+
+link-cons : (p v a k : ℕ) (vs : List ℕ) (l : Vmtf) → a ≡ first vs → k ≡ length (v ∷ vs) → linkFrom p (v ∷ vs) l ≡ linkFrom v vs (linked p v a k l)
+unfolding linkFrom
+link-cons p v a k vs l e f = rw (e, f)
+
+pub link-step : (order : List ℕ) (i p : ℕ) (l : Vmtf) → i < length order
+    → linkFrom p (drop i order) l ≡ linkFrom (getD order i 0) (drop (i + 1) order) (linked p (getD order i 0) (getD order (i + 1) NONE) (length order - i) l)
+link-step order i p l h =
+    let z : i + 1 + 0 ≡ i + 1 = omega arith in
+    rw (drop-next order i h) (link-cons p (getD order i 0) (getD order (i + 1) NONE) (length order - i) (drop (i + 1) order) l (rw (getD-drop, z)) (simp length-drop (omega arith)))
+
+pub link-end : (order : List ℕ) (i p : ℕ) (l : Vmtf) → length order ≤ i → linkFrom p (drop i order) l ≡ l
+unfolding linkFrom
+link-end order i p l h = rw (drop-of-length-le order h)
+
+-- the order of `new` holds variables
+pub length-count : (counts codes : List ℕ) → length (countLits counts codes) ≡ length counts
+unfolding countLits
+length-count counts [] = refl
+length-count counts (code ∷ codes) = length-count (set counts (index code) (getD counts (index code) 0 + 1)) codes ∙ length-set counts _ _
+
+module _ (n : ℕ) (codes : List ℕ) where
+  pub lit-pairs : let counts = countLits (replicate n 0) codes in SamePairs counts (upTo n) (sortReverse counts (upTo n) .0) (litOrder n codes)
+  unfolding litOrder
+  lit-pairs = sort-permutes (countLits (replicate n 0) codes) (upTo n) (length-upTo n ∙ sym (length-count (replicate n 0) codes ∙ length-replicate n 0))
+
+  pub lit-ordering : Ordering n (litOrder n codes)
+  lit-ordering = record { long = long; vars = vars }
+    where
+      long : length (litOrder n codes) ≡ n
+      long = lit-pairs .right-long ∙ length-upTo n
+
+      counts-long : length (sortReverse (countLits (replicate n 0) codes) (upTo n) .0) ≡ n
+      counts-long = lit-pairs .left-long ∙ length-count (replicate n 0) codes ∙ length-replicate n 0
+
+      vars : (i : ℕ) → i < n → getD (litOrder n codes) i 0 < n
+      vars i h =
+          let r = stood lit-pairs i (omega (arith, counts-long)) (omega (arith, long)) in
+          let l : r .place < n = omega (arith, r .in-right, length-upTo n) in
+          rw (sym (r .is-right), getD-upTo n (r .place) l) l
+
+  pub order-from : (c x c′ x′ : List ℕ) → c ≡ countLits (replicate n 0) codes → x ≡ upTo n → (c′, x′) ≡ sortReverse c x → x′ ≡ litOrder n codes
+  unfolding litOrder
+  order-from c x c′ x′ a b e = ap (λ (p : List ℕ × List ℕ). p .1) e ∙ rw (a, b)
+
+-- `make_linked_list` from filled memory
+pub make-from : (n : ℕ) (order next prev ts : List ℕ) (v : ℕ) → length order ≡ n → next ≡ replicate n NONE → prev ≡ replicate n NONE → ts ≡ replicate n 0 → v ≡ first order
+    → linkFrom NONE order (record { next = next; prev = prev; ts = ts; start = v; search = v; timestamp = length order + 1 }) ≡ makeLinkedList order
+unfolding makeLinkedList
+make-from n order next prev ts v e a b d f = rw (a, b, d, f, sym e)
 
 -- ---- the walk of `rescore`
 

@@ -5,9 +5,12 @@ use mathlib.Core.Path.{_≡_}
 use mathlib.Core.Logic.{_≢_}
 use mathlib.Core.Bool.{Bool, true, false, cond, _||_}
 use mathlib.Core.List.{List, [], _∷_}
-use lib.ListN.{length, getD, set}
+use lib.ListN.{length, getD, set, replicate}
 use lib.Dec.{leb, eqb}
 use Rattle.lit.specs.Numbers.{NONE, unassigned}
+use Rattle.lit.specs.Lits.{index}
+use Rattle.laws.specs.InPlace.{upTo}
+use Rattle.util.specs.SortReverse.{sortReverse}
 use Rattle.vmtf.specs.declared.VmtfState.{VmtfState}
 use Rattle.vmtf.specs.declared.Next.{Next}
 use Rattle.vmtf.specs.declared.Next.the-variants.{Chose, Nothing, Stuck}
@@ -35,6 +38,50 @@ vmtfOf next prev ts s = record {
 -- `usize::MAX` of the source as a stamp, in 64 bits
 abbrev pub maxStamp : ℕ
 maxStamp = 18446744073709551615
+
+-- the first loop of `new`: one more for the variable of each literal
+unfoldable pub countLits : List ℕ → List ℕ → List ℕ
+countLits counts [] = counts
+countLits counts (code ∷ codes) = countLits (set counts (index code) (getD counts (index code) 0 + 1)) codes
+
+-- the order of `new`: the variables, those in the most literals first
+unfoldable pub litOrder : ℕ → List ℕ → List ℕ
+litOrder n codes = sortReverse (countLits (replicate n 0) codes) (upTo n) .1
+
+-- the first of a list, or NONE
+abbrev pub first : List ℕ → ℕ
+first vs = getD vs 0 NONE
+
+-- a turn of the loop of `make_linked_list`: v comes after p and before q, with the stamp k
+abbrev pub linked : ℕ → ℕ → ℕ → ℕ → Vmtf → Vmtf
+linked p v q k l = record {
+  next = set (l .next) v q;
+  prev = set (l .prev) v p;
+  ts = set (l .ts) v k;
+  start = l .start;
+  search = l .search;
+  timestamp = l .timestamp;
+}
+
+-- the loop: vs come after p, each stamped with the number of those from it on
+unfoldable pub linkFrom : ℕ → List ℕ → Vmtf → Vmtf
+linkFrom p [] l = l
+linkFrom p (v ∷ vs) l = linkFrom v vs (linked p v (first vs) (length (v ∷ vs)) l)
+
+-- `make_linked_list`, from nodes as `Default` makes them
+unfoldable pub makeLinkedList : List ℕ → Vmtf
+makeLinkedList order = linkFrom NONE order (record {
+  next = replicate (length order) NONE;
+  prev = replicate (length order) NONE;
+  ts = replicate (length order) 0;
+  start = first order;
+  search = first order;
+  timestamp = length order + 1;
+})
+
+-- `new`, for n variables and the literals of all clauses
+unfoldable pub new : ℕ → List ℕ → Vmtf
+new n codes = makeLinkedList (litOrder n codes)
 
 -- the loop of `rescore`: from curr on along the next links, the stamps score, score - 1, ..
 unfoldable pub renumber : List ℕ → ℕ → ℕ → List ℕ → List ℕ
@@ -139,3 +186,27 @@ pub record Ends (next : List ℕ) (curr : ℕ) : Type 0 where
   pub chain : Chain next curr rest
   pub short : length rest ≤ length next
   pub small : length next ≤ NONE
+
+-- What safety needs of an order of n variables.
+pub record Ordering (n : ℕ) (order : List ℕ) : Type 0 where
+  pub long : length order ≡ n
+  pub vars : (i : ℕ) → i < n → getD order i 0 < n
+
+-- What safety needs of the literals of all clauses.
+pub record Literals (n : ℕ) (codes : List ℕ) : Type 0 where
+  pub few : length codes ≤ NONE
+  pub vars : (i : ℕ) → i < length codes → index (getD codes i 0) < n
+
+-- What the order of n variables needs: scratch of this length.
+pub record Scratch (n : ℕ) (indexes tree : List ℕ) : Type 0 where
+  pub small : n ≤ NONE
+  pub indexes-long : length indexes ≡ n
+  pub tree-long : length tree ≡ n
+
+-- What a fresh list of n variables needs: slices of this length.
+pub record Fresh (n : ℕ) (prev ts counts indexes : List ℕ) : Type 0 where
+  pub small : n ≤ NONE
+  pub prev-long : length prev ≡ n
+  pub ts-long : length ts ≡ n
+  pub counts-long : length counts ≡ n
+  pub indexes-long : length indexes ≡ n

@@ -4,12 +4,15 @@ ghost use mathlib.Core.Path.{_≡_};
 ghost use mathlib.Core.Logic.{_≢_};
 ghost use mathlib.Core.List.{List};
 ghost use Prim.Native.Nat.{ℕ, _+_, _<_, _≤_};
-ghost use lib.ListN.{length, getD, set};
+ghost use lib.ListN.{length, getD, replicate};
+ghost use Rattle.laws.specs.InPlace.{upTo};
 ghost use Rattle.lit.specs.Numbers.{NONE as none};
 ghost use Rattle.vmtf.specs.Vmtf as spec;
-ghost use Rattle.vmtf.specs.Vmtf.{vmtfOf, Links, Safe, Ends};
+ghost use Rattle.vmtf.specs.Vmtf.{vmtfOf, Links, Safe, Ends, Ordering, Literals, Scratch, Fresh};
 use lit::NONE;
 use lit::UNASSIGNED;
+use lit::index;
+use util::sort_reverse;
 
 // The largest stamp.
 const MAX_STAMP: u64 = 18446744073709551615;
@@ -26,6 +29,134 @@ pub enum Next {
     Chose(VmtfState, u32),
     Nothing,
     Stuck,
+}
+
+// Sets every element to x.
+fn fill(s: &mut [u32], x: u32)
+    ensures { λ _. ⌜ now (s .exit) ≡ replicate (length (now (s .entry))) x ⌝ }
+{
+    let mut i = 0;
+    while i < s.len() {
+        s[i] = x;
+        i += 1;
+    }
+}
+
+// Sets every stamp to 0.
+fn clear(s: &mut [u64])
+    ensures { λ _. ⌜ now (s .exit) ≡ replicate (length (now (s .entry))) 0 ⌝ }
+{
+    let mut i = 0;
+    while i < s.len() {
+        s[i] = 0;
+        i += 1;
+    }
+}
+
+// Writes the variables in the order of their numbers.
+fn number(s: &mut [u32])
+    requires { ⌜ length (now s) ≤ none ⌝ }
+    ensures { λ _. ⌜ now (s .exit) ≡ upTo (length (now (s .entry))) ⌝ }
+{
+    let mut i = 0;
+    while i < s.len() {
+        s[i] = i as u32;
+        i += 1;
+    }
+}
+
+// Counts the literals of each variable, of both polarities.
+fn count_lits(codes: &[u32], counts: &mut [u32])
+    requires { ⌜ Literals (length (now counts)) (now codes) ⌝ }
+    requires { ⌜ now counts ≡ replicate (length (now counts)) 0 ⌝ }
+    ensures { λ _. ⌜ now (counts .exit) ≡ spec.countLits (now (counts .entry)) (now (codes .entry)) ⌝ }
+{
+    let mut i = 0;
+    while i < codes.len() {
+        let v = index(codes[i]) as usize;
+        counts[v] += 1;
+        i += 1;
+    }
+}
+
+// The variable at a place of the order, or NONE past its end.
+fn var_at(order: &[u32], i: usize) -> u32
+    ensures { λ r. ⌜ r ≡ getD (now (order .entry)) i none ⌝ }
+{
+    if i < order.len() {
+        return order[i];
+    }
+    NONE
+}
+
+// Links the variables in the order and stamps them, the last with 1.
+fn link(order: &[u32], next: &mut [u32], prev: &mut [u32], ts: &mut [u64])
+    requires { ⌜ Ordering (length (now next)) (now order) ⌝ }
+    requires { ⌜ (length (now prev) ≡ length (now next)) × (length (now ts) ≡ length (now next)) ⌝ }
+    ensures { λ _. ⌜ ((s : VmtfState) → vmtfOf (now (next .exit)) (now (prev .exit)) (now (ts .exit)) s
+        ≡ spec.linkFrom none (now (order .entry)) (vmtfOf (now (next .entry)) (now (prev .entry)) (now (ts .entry)) s)) ⌝ }
+{
+    let mut before = NONE;
+    let mut i = 0;
+    while i < order.len() {
+        let v = order[i];
+        next[v as usize] = var_at(order, i + 1);
+        prev[v as usize] = before;
+        ts[v as usize] = (order.len() - i) as u64;
+        before = v;
+        i += 1;
+    }
+}
+
+// The list of the variables in the order.
+fn make_linked_list(order: &[u32], next: &mut [u32], prev: &mut [u32], ts: &mut [u64]) -> VmtfState
+    requires { ⌜ Ordering (length (now next)) (now order) ⌝ }
+    requires { ⌜ (length (now prev) ≡ length (now next)) × (length (now ts) ≡ length (now next)) ⌝ }
+    ensures { λ r. ⌜ vmtfOf (now (next .exit)) (now (prev .exit)) (now (ts .exit)) r ≡ spec.makeLinkedList (now (order .entry)) ⌝ }
+{
+    fill(next, NONE);
+    fill(prev, NONE);
+    clear(ts);
+    link(order, next, prev, ts);
+    let start = var_at(order, 0);
+    VmtfState {
+        start: start,
+        search: start,
+        timestamp: order.len() as u64 + 1,
+    }
+}
+
+// The variables in the most literals first. The counts and the tree are scratch.
+fn lit_order(codes: &[u32], counts: &mut [u32], indexes: &mut [u32], tree: &mut [u64])
+    requires { ⌜ Literals (length (now counts)) (now codes) ⌝ }
+    requires { ⌜ Scratch (length (now counts)) (now indexes) (now tree) ⌝ }
+    ensures { λ _. ⌜ now (indexes .exit) ≡ spec.litOrder (length (now (counts .entry))) (now (codes .entry)) ⌝ }
+{
+    fill(counts, 0);
+    count_lits(codes, counts);
+    number(indexes);
+    sort_reverse(counts, indexes, tree);
+}
+
+// The list of a fresh session. The counts and the indexes are scratch.
+pub fn new(
+    codes: &[u32],
+    next: &mut [u32],
+    prev: &mut [u32],
+    ts: &mut [u64],
+    counts: &mut [u32],
+    indexes: &mut [u32],
+) -> VmtfState
+    requires { ⌜ Literals (length (now next)) (now codes) ⌝ }
+    requires { ⌜ Fresh (length (now next)) (now prev) (now ts) (now counts) (now indexes) ⌝ }
+    ensures { λ r. ⌜ vmtfOf (now (next .exit)) (now (prev .exit)) (now (ts .exit)) r ≡ spec.new (length (now (next .entry))) (now (codes .entry)) ⌝ }
+    ensures { λ _. ⌜ (now (counts .exit) ≡ replicate (length (now (next .entry))) 0) × (now (indexes .exit) ≡ replicate (length (now (next .entry))) 0) ⌝ }
+{
+    lit_order(codes, counts, indexes, ts);
+    let s = make_linked_list(indexes, next, prev, ts);
+    fill(counts, 0);
+    fill(indexes, 0);
+    s
 }
 
 // Whether the variable may be decided: it is unassigned.
