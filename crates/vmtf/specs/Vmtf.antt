@@ -131,6 +131,24 @@ tick l = cond (eqb (l .timestamp) maxStamp) (rescore l) (record {
 unfoldable pub moveToFront : ℕ → Vmtf → Vmtf
 moveToFront v l = cond (eqb v (l .start)) l (tick (relink v l))
 
+-- the second loop of `bump_vec_of_vars`: the list after every move
+unfoldable pub moveAll : List ℕ → Vmtf → Vmtf
+moveAll [] l = l
+moveAll (v ∷ vs) l = moveAll vs (moveToFront v l)
+
+-- its sort: the variables rising by their stamps
+unfoldable pub insertByStamp : List ℕ → ℕ → List ℕ → List ℕ
+insertByStamp ts v [] = v ∷ []
+insertByStamp ts v (x ∷ xs) = cond (leb (getD ts v 0) (getD ts x 0)) (v ∷ x ∷ xs) (x ∷ insertByStamp ts v xs)
+
+unfoldable pub byStamp : List ℕ → List ℕ → List ℕ
+byStamp ts [] = []
+byStamp ts (v ∷ vs) = insertByStamp ts v (byStamp ts vs)
+
+-- `bump_vec_of_vars`: moves in rising order of the stamps held before the first move
+unfoldable pub bumpVecOfVars : List ℕ → Vmtf → Vmtf
+bumpVecOfVars vs l = moveAll (byStamp (l .ts) vs) l
+
 -- an open variable is unassigned
 unfoldable pub isOpen : List ℕ → ℕ → Bool
 isOpen values v = leb unassigned (getD values v 0)
