@@ -89,6 +89,20 @@ total-all (suc n) o h k v b =
     (λ e. rw e (omega (arith, total-most n o h, h n)))
     (λ d. total-all n o h (omega (arith, h n)) v (omega arith))
 
+total-least : (n : ℕ) (o : List ℕ) → ((v : ℕ) → v < n → 0 < count v o) → n ≤ total n o
+unfolding total
+total-least zero o h = omega arith
+total-least (suc n) o h = omega (arith, total-least n o (λ v k. h v (omega arith)), h n (omega arith))
+
+total-exact : (n : ℕ) (o : List ℕ) → ((v : ℕ) → v < n → 0 < count v o) → total n o ≤ n → (v : ℕ) → v < n → count v o ≡ 1
+unfolding total
+total-exact zero o h k v b = absurd (omega arith)
+total-exact (suc n) o h k v b =
+    let below : (w : ℕ) → w < n → 0 < count w o = λ w q. h w (omega arith) in
+    by-cases (ℕ-discrete v n)
+    (λ e. rw e (omega (arith, total-least n o below, h n (omega arith))))
+    (λ d. total-exact n o below (omega (arith, h n (omega arith))) v (omega arith))
+
 -- an order in which each of n variables stands once, and nothing else, has n places
 pub once-length : (n : ℕ) (o : List ℕ) → ((v : ℕ) → 0 < count v o → v < n) → ((v : ℕ) → v < n → count v o ≡ 1) → length o ≡ n
 once-length n o vars once = sym (total-length n o vars) ∙ total-once n o once
@@ -96,6 +110,10 @@ once-length n o vars once = sym (total-length n o vars) ∙ total-once n o once
 -- an order of n places in which only variables stand, none twice, has each of them
 pub length-once : (n : ℕ) (o : List ℕ) → ((v : ℕ) → 0 < count v o → v < n) → ((v : ℕ) → count v o ≤ 1) → length o ≡ n → (v : ℕ) → v < n → count v o ≡ 1
 length-once n o vars most long = total-all n o most (omega (arith, total-length n o vars))
+
+-- an order of n places in which only variables stand, and each of them, has none twice
+pub every-once : (n : ℕ) (o : List ℕ) → ((v : ℕ) → 0 < count v o → v < n) → ((v : ℕ) → v < n → 0 < count v o) → length o ≡ n → (v : ℕ) → v < n → count v o ≡ 1
+every-once n o vars every long = total-exact n o every (omega (arith, total-length n o vars))
 
 -- ---- links
 

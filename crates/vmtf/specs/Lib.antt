@@ -4,3 +4,4 @@ pub mod Laws
 pub mod Order
 pub mod Good
 pub mod Moves
+pub mod Fresh
