@@ -5,3 +5,4 @@ pub mod Order
 pub mod Good
 pub mod Moves
 pub mod Fresh
+pub mod Choice
