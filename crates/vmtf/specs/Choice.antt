@@ -55,9 +55,9 @@ module _ {n : ℕ} {order : List ℕ} {l : Vmtf} (g : GoodList n order l) (value
   next-right =
       let v : ℕ = firstOpen values (from (l .next) (length (l .next)) (l .search)) in
       cond-elim (NextIs n order values l) (eqb v NONE)
-      (λ _. cond-elim (NextIs n order values l) (anyOpen values (length values)) 
-        (λ e all. false≢true (sym (none-open values (length values) (λ w h. assigned-shut values w (all w (omega arith)))) ∙ e))
-        (λ e w h. shut-assigned values w (not-true (isOpen values w) (λ o. false≢true (sym e ∙ any-open values (length values) w (omega arith) o)))))
+      (λ _. cond-elim (NextIs n order values l) (anyOpen values (length values))
+      (λ e all. false≢true (sym (none-open values (length values) (λ w h. assigned-shut values w (all w (omega arith)))) ∙ e))
+      (λ e w h. shut-assigned values w (not-true (isOpen values w) (λ o. false≢true (sym e ∙ any-open values (length values) w (omega arith) o)))))
       (λ e.
       let r = found (good-ends g) values v refl (eqb-false v NONE e) in
       let h : v < n = omega (arith, r .0, g .linked .next-long) in

@@ -70,8 +70,7 @@ link-row p (v ∷ vs) l once h =
     let k : Kept v m (linkFrom v vs m) = link-kept v vs m v (omega (arith, once v, count-here v v vs refl)) in
     let b = h v (count-head v vs) in
     let stamp : getD (linkFrom v vs m .ts) v 0 ≡ suc (length vs) = k .ts ∙ getD-set-same (l .ts) v (length (v ∷ vs)) 0 (b .2) in
-    let t = link-row v vs m (λ w. omega (arith, once w, count-more w v vs)) (λ w q. let r = h w (omega (arith, count-more w v vs)) in (simp length-set (r .0), simp length-set (r .1), simp length-set (r .2))) in
-    (
+    let t = link-row v vs m (λ w. omega (arith, once w, count-more w v vs)) (λ w q. let r = h w (omega (arith, count-more w v vs)) in (simp length-set (r .0), simp length-set (r .1), simp length-set (r .2))) in (
       (k .prev ∙ getD-set-same (l .prev) v p 0 (b .1), k .next ∙ getD-set-same (l .next) v (first vs) 0 (b .0), t .0),
       rw stamp (omega arith, rw add-one at (t .1)),
     )
@@ -91,8 +90,8 @@ module _ (n : ℕ) (order : List ℕ) (small : n ≤ NONE) (long : length order 
       let s = link-same NONE order l in
       let most : (w : ℕ) → count w order ≤ 1 = λ w. by-cases (decLt 0 (count w order)) (λ h. omega (arith, once w (vars w h))) (λ h. omega arith) in
       let r = link-row NONE order l most (λ w h.
-          let b : w < length order = omega (arith, vars w h) in
-          (simp length-replicate b, simp length-replicate b, simp length-replicate b)) in
+      let b : w < length order = omega (arith, vars w h) in
+      (simp length-replicate b, simp length-replicate b, simp length-replicate b)) in
       record {
         linked = record {
           small = small;

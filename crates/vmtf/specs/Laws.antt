@@ -10,17 +10,17 @@ use native.Mathlib.Decide.{ℕ-discrete}
 use native.Mathlib.Numerals.{add-one}
 use lib.ListN.{length, getD, set, drop, replicate, length-set, length-drop, length-replicate, drop-of-length-le}
 use lib.Seq.{drop-cons, getD-drop}
-use lib.Dec.{eqb}
-use borrow.Author.Tests.{eq-eqb, ne-eqb, eqb-false}
+use lib.Dec.{ltb, eqb}
+use borrow.Author.Tests.{eq-eqb, ne-eqb, eqb-false, ltb-true}
 use Rattle.lit.specs.Numbers.{NONE}
 use Rattle.lit.specs.Lits.{index}
-use Rattle.laws.specs.Tests.{cond-elim}
+use Rattle.laws.specs.Tests.{and-left, cond-elim}
 use Rattle.laws.specs.Lists.{set-cases}
 use Rattle.laws.specs.InPlace.{upTo, length-upTo, getD-upTo}
 use Rattle.util.specs.Pairs.{SamePairs, stood}
 use Rattle.util.specs.SortReverse.{sortReverse}
 use Rattle.util.specs.Falling.{sort-permutes}
-use Rattle.vmtf.specs.Vmtf.{Vmtf, maxStamp, countLits, litOrder, first, linked, linkFrom, makeLinkedList, renumber, rescore, relink, tick, moveToFront, isOpen, from, firstOpen, anyOpen, Links, Safe, Chain, Ends, Ordering}
+use Rattle.vmtf.specs.Vmtf.{Vmtf, maxStamp, countLits, litOrder, first, linked, linkFrom, makeLinkedList, renumber, rescore, relink, tick, moveToFront, isOpen, from, firstOpen, anyOpen, stands, checkRow, Links, Safe, Chain, Ends, Ordering}
 
 -- ---- lists place by place
 
@@ -210,6 +210,25 @@ pub none-open : (values : List ℕ) (n : ℕ) → ((v : ℕ) → v < n → isOpe
 unfolding anyOpen
 none-open values zero f = refl
 none-open values (suc n) f = rw (none-open values n (λ v h. f v (omega arith)), f n (omega arith))
+
+-- ---- the walk of the check
+
+module _ (l : Vmtf) (p b c : ℕ) where
+  pub stands-in : stands l p b c ≡ true → c < length (l .next)
+  unfolding stands
+  stands-in e = ltb-true c (length (l .next)) (and-left (ltb c (length (l .next))) _ e)
+
+  pub check-step : (n i : ℕ) → i < n → stands l p b c ≡ true → checkRow l (n - i) p b c ≡ checkRow l (n - (i + 1)) c (getD (l .ts) c 0) (getD (l .next) c 0)
+  unfolding checkRow
+  check-step n i h e = let z : n - i ≡ suc (n - (i + 1)) = omega arith in rw (z, e)
+
+  pub check-fails : (n i : ℕ) → i < n → stands l p b c ≡ false → checkRow l (n - i) p b c ≡ false
+  unfolding checkRow
+  check-fails n i h e = let z : n - i ≡ suc (n - (i + 1)) = omega arith in rw (z, e)
+
+  pub check-end : (n i : ℕ) → n ≤ i → checkRow l (n - i) p b c ≡ eqb c NONE
+  unfolding checkRow
+  check-end n i h = let z : n - i ≡ 0 = omega arith in rw z
 
 -- ---- what safety needs stays
 

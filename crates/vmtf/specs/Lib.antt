@@ -6,3 +6,4 @@ pub mod Good
 pub mod Moves
 pub mod Fresh
 pub mod Choice
+pub mod Check

@@ -3,10 +3,10 @@
 use Prim.Native.Nat.{ℕ, zero, suc, _+_, _<_, _≤_}
 use mathlib.Core.Path.{_≡_}
 use mathlib.Core.Logic.{_≢_}
-use mathlib.Core.Bool.{Bool, true, false, cond, _||_}
+use mathlib.Core.Bool.{Bool, false, cond, _&&_, _||_}
 use mathlib.Core.List.{List, [], _∷_}
 use lib.ListN.{length, getD, set, replicate}
-use lib.Dec.{leb, eqb}
+use lib.Dec.{leb, ltb, eqb}
 use Rattle.lit.specs.Numbers.{NONE, unassigned}
 use Rattle.lit.specs.Lits.{index}
 use Rattle.laws.specs.InPlace.{upTo}
@@ -178,6 +178,19 @@ getNext values l =
       search = getD (l .next) v 0;
       timestamp = l .timestamp;
     }) v)
+
+-- the check of a lent list. c may come after p in the list where the stamp before it is b
+unfoldable pub stands : Vmtf → ℕ → ℕ → ℕ → Bool
+stands l p b c = ltb c (length (l .next)) && (eqb (getD (l .prev) c 0) p && ltb (getD (l .ts) c 0) b)
+
+-- k variables stand in a row after p, from c on, and NONE comes after the last
+unfoldable pub checkRow : Vmtf → ℕ → ℕ → ℕ → ℕ → Bool
+checkRow l zero p b c = eqb c NONE
+checkRow l (suc k) p b c = let r = checkRow l k c (getD (l .ts) c 0) (getD (l .next) c 0) in stands l p b c && r
+
+-- all variables stand in a row from the front on, below the timestamp, and search is a variable or NONE
+unfoldable pub checkList : Vmtf → Bool
+checkList l = checkRow l (length (l .next)) NONE (l .timestamp) (l .start) && (eqb (l .search) NONE || ltb (l .search) (length (l .next)))
 
 -- What safety needs of a walk along the next links from curr: links are variables or NONE.
 pub record Links (n : ℕ) (next : List ℕ) (curr : ℕ) : Type 0 where

@@ -313,3 +313,52 @@ pub fn get_next(next: &[u32], values: &[u8], s: VmtfState) -> Next
         found,
     )
 }
+
+// Whether curr may come next in the list: a variable with the link back to the one before it and a lower stamp.
+fn stands(next: &[u32], prev: &[u32], ts: &[u64], before: u32, stamp: u64, curr: u32) -> bool
+    requires { ⌜ (length (now prev) ≡ length (now next)) × (length (now ts) ≡ length (now next)) ⌝ }
+    ensures { λ r. ⌜ ((s : VmtfState) → r ≡ spec.stands (vmtfOf (now (next .entry)) (now (prev .entry)) (now (ts .entry)) s) before stamp curr) ⌝ }
+{
+    if curr as usize >= next.len() {
+        return false;
+    }
+    if prev[curr as usize] != before {
+        return false;
+    }
+    ts[curr as usize] < stamp
+}
+
+// Whether all variables stand in the list from the front on, with links that agree and stamps that fall below the timestamp.
+fn check_row(next: &[u32], prev: &[u32], ts: &[u64], s: VmtfState) -> bool
+    requires { ⌜ (length (now prev) ≡ length (now next)) × (length (now ts) ≡ length (now next)) ⌝ }
+    ensures { λ r. ⌜ r ≡ spec.checkRow (vmtfOf (now (next .entry)) (now (prev .entry)) (now (ts .entry)) s) (length (now (next .entry))) none (s .timestamp) (s .start) ⌝ }
+{
+    let mut before = NONE;
+    let mut stamp = s.timestamp;
+    let mut curr = s.start;
+    let mut i = 0;
+    while i < next.len() {
+        if !stands(next, prev, ts, before, stamp, curr) {
+            return false;
+        }
+        before = curr;
+        stamp = ts[curr as usize];
+        curr = next[curr as usize];
+        i += 1;
+    }
+    curr == NONE
+}
+
+// Whether a lent list is good.
+pub fn check_list(next: &[u32], prev: &[u32], ts: &[u64], s: VmtfState) -> bool
+    requires { ⌜ (length (now prev) ≡ length (now next)) × (length (now ts) ≡ length (now next)) ⌝ }
+    ensures { λ r. ⌜ r ≡ spec.checkList (vmtfOf (now (next .entry)) (now (prev .entry)) (now (ts .entry)) s) ⌝ }
+{
+    if !check_row(next, prev, ts, s) {
+        return false;
+    }
+    if s.search == NONE {
+        return true;
+    }
+    (s.search as usize) < next.len()
+}
