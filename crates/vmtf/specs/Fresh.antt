@@ -111,7 +111,7 @@ module _ (n : ℕ) (order : List ℕ) (small : n ≤ NONE) (long : length order 
 
 module _ (n : ℕ) (codes : List ℕ) where
   lit-vars : (v : ℕ) → 0 < count v (litOrder n codes) → v < n
-  lit-vars = at-every (λ v. v < n) (litOrder n codes) (λ i h. lit-ordering n codes .vars i (omega (arith, lit-ordering n codes .long)))
+  lit-vars = at-every (λ v. v < n) (litOrder n codes) (lit-ordering n codes .vars)
 
   -- each variable stands in the list of pairs, before the sort and so after it
   lit-every : (v : ℕ) → v < n → 0 < count v (litOrder n codes)

@@ -4,23 +4,23 @@ use Prim.Native.Nat.{ℕ, zero, suc, _+_, _-_, _<_, _≤_}
 use mathlib.Core.Path.{_≡_, refl, sym, ap, _∙_}
 use mathlib.Core.Logic.{_≢_}
 use mathlib.Core.Bool.{Bool, true, false, cond, _||_}
-use mathlib.Core.List.{List, [], _∷_}
+use mathlib.Core.List.{List, [], _∷_, _++_, append-nil}
 use native.Mathlib.Omega.{arith}
 use native.Mathlib.Decide.{ℕ-discrete}
 use native.Mathlib.Numerals.{add-one}
-use lib.ListN.{length, getD, set, drop, replicate, length-set, length-drop, length-replicate, drop-of-length-le}
-use lib.Seq.{drop-cons, getD-drop}
+use lib.ListN.{length, getD, set, take, drop, replicate, length-set, length-drop, length-replicate, length-map, drop-of-length-le, List·getD-map}
+use lib.Seq.{drop-cons, getD-drop, length-take-le, take-suc, take-all}
 use lib.Dec.{ltb, eqb}
 use borrow.Author.Tests.{eq-eqb, ne-eqb, eqb-false, ltb-true}
 use Rattle.lit.specs.Numbers.{NONE}
 use Rattle.lit.specs.Lits.{index}
 use Rattle.laws.specs.Tests.{and-left, cond-elim}
 use Rattle.laws.specs.Lists.{set-cases}
-use Rattle.laws.specs.InPlace.{upTo, length-upTo, getD-upTo}
+use Rattle.laws.specs.InPlace.{store-next, upTo, length-upTo, getD-upTo}
 use Rattle.util.specs.Pairs.{SamePairs, stood}
 use Rattle.util.specs.SortReverse.{sortReverse}
 use Rattle.util.specs.Falling.{sort-permutes}
-use Rattle.vmtf.specs.Vmtf.{Vmtf, maxStamp, countLits, litOrder, first, linked, linkFrom, makeLinkedList, renumber, rescore, relink, tick, moveToFront, isOpen, from, firstOpen, anyOpen, stands, checkRow, Links, Safe, Chain, Ends, Ordering}
+use Rattle.vmtf.specs.Vmtf.{Vmtf, maxStamp, countLits, litOrder, first, linked, linkFrom, makeLinkedList, renumber, rescore, relink, tick, moveToFront, moveAll, stampsOf, isOpen, from, firstOpen, anyOpen, stands, checkRow, Links, Safe, Chain, Ends, Vars, Ordering}
 
 -- ---- lists place by place
 
@@ -33,6 +33,21 @@ pub getD-any : (l : List ℕ) (i a b : ℕ) → i < length l → getD l i a ≡ 
 getD-any [] i a b h = absurd (omega arith)
 getD-any (x ∷ l) zero a b h = refl
 getD-any (x ∷ l) (suc i) a b h = getD-any l i a b (omega arith)
+
+-- copying a list to memory of its length, place by place
+abbrev pub copied : List ℕ → List ℕ → ℕ → List ℕ
+copied vs l i = take i vs ++ drop i l
+
+pub copied-next : (vs l : List ℕ) (i v : ℕ) → i < length vs → length l ≡ length vs → v ≡ getD vs i 0 → set (copied vs l i) i v ≡ copied vs l (i + 1)
+copied-next vs l i v h e q = rw q (store-next (take i vs) l i (getD vs i 0) (length-take-le i vs (omega arith)) (omega arith) ∙ rw (add-one, take-suc vs i 0 h))
+
+pub copied-end : (vs l : List ℕ) (i : ℕ) → length vs ≤ i → length l ≡ length vs → copied vs l i ≡ vs
+copied-end vs l i h e =
+    let k : length l ≤ i = omega arith in
+    rw (take-all i vs h, drop-of-length-le l k) (append-nil vs)
+
+pub stamp-at : (ts vs : List ℕ) (i : ℕ) → i < length vs → getD ts (getD vs i 0) 0 ≡ getD (stampsOf ts vs) i 0
+stamp-at ts vs i h = sym (getD-any (stampsOf ts vs) i 0 (getD ts 0 0) (simp length-map h) ∙ List·getD-map (λ v. getD ts v 0) vs i 0)
 
 -- ---- the loops of `new` and `make_linked_list`
 
@@ -79,9 +94,9 @@ module _ (n : ℕ) (codes : List ℕ) where
       counts-long : length (sortReverse (countLits (replicate n 0) codes) (upTo n) .0) ≡ n
       counts-long = lit-pairs .left-long ∙ length-count (replicate n 0) codes ∙ length-replicate n 0
 
-      vars : (i : ℕ) → i < n → getD (litOrder n codes) i 0 < n
+      vars : Vars n (litOrder n codes)
       vars i h =
-          let r = stood lit-pairs i (omega (arith, counts-long)) (omega (arith, long)) in
+          let r = stood lit-pairs i (omega (arith, counts-long, long)) h in
           let l : r .place < n = omega (arith, r .in-right, length-upTo n) in
           rw (sym (r .is-right), getD-upTo n (r .place) l) l
 
@@ -229,6 +244,16 @@ module _ (l : Vmtf) (p b c : ℕ) where
   pub check-end : (n i : ℕ) → n ≤ i → checkRow l (n - i) p b c ≡ eqb c NONE
   unfolding checkRow
   check-end n i h = let z : n - i ≡ 0 = omega arith in rw z
+
+-- ---- the moves of a group
+
+pub moves-step : (vs : List ℕ) (i : ℕ) (l : Vmtf) → i < length vs → moveAll (drop i vs) l ≡ moveAll (drop (i + 1) vs) (moveToFront (getD vs i 0) l)
+unfolding moveAll
+moves-step vs i l h = rw (drop-next vs i h)
+
+pub moves-end : (vs : List ℕ) (i : ℕ) (l : Vmtf) → length vs ≤ i → moveAll (drop i vs) l ≡ l
+unfolding moveAll
+moves-end vs i l h = rw (drop-of-length-le vs h)
 
 -- ---- what safety needs stays
 

@@ -4,6 +4,7 @@ pub mod Laws
 pub mod Order
 pub mod Good
 pub mod Moves
+pub mod Sort
 pub mod Fresh
 pub mod Choice
 pub mod Check

@@ -4,12 +4,13 @@ use Prim.Native.Nat.{ℕ, zero, suc, _+_, _<_, _≤_}
 use mathlib.Core.Path.{_≡_}
 use mathlib.Core.Logic.{_≢_}
 use mathlib.Core.Bool.{Bool, false, cond, _&&_, _||_}
-use mathlib.Core.List.{List, [], _∷_}
+use mathlib.Core.List.{List, [], _∷_, map}
 use lib.ListN.{length, getD, set, replicate}
 use lib.Dec.{leb, ltb, eqb}
 use Rattle.lit.specs.Numbers.{NONE, unassigned}
 use Rattle.lit.specs.Lits.{index}
 use Rattle.laws.specs.InPlace.{upTo}
+use Rattle.util.specs.Rising.{VarByStamp}
 use Rattle.util.specs.SortReverse.{sortReverse}
 use Rattle.vmtf.specs.declared.VmtfState.{VmtfState}
 use Rattle.vmtf.specs.declared.Next.{Next}
@@ -136,6 +137,10 @@ unfoldable pub moveAll : List ℕ → Vmtf → Vmtf
 moveAll [] l = l
 moveAll (v ∷ vs) l = moveAll vs (moveToFront v l)
 
+-- its first loop: the stamps of a group
+abbrev pub stampsOf : List ℕ → List ℕ → List ℕ
+stampsOf ts vs = map (λ v. getD ts v 0) vs
+
 -- its sort: the variables rising by their stamps
 unfoldable pub insertByStamp : List ℕ → ℕ → List ℕ → List ℕ
 insertByStamp ts v [] = v ∷ []
@@ -218,10 +223,21 @@ pub record Ends (next : List ℕ) (curr : ℕ) : Type 0 where
   pub short : length rest ≤ length next
   pub small : length next ≤ NONE
 
+-- What safety needs of the variables of a list, in any order.
+abbrev pub Vars : ℕ → List ℕ → Type 0
+Vars n vs = (i : ℕ) → i < length vs → getD vs i 0 < n
+
+-- What a group needs: scratch of its length, and a stamp of its own for each of its variables.
+pub record Group (vs ts stamps order : List ℕ) : Type 0 where
+  pub vars : Vars (length ts) vs
+  pub stamps-long : length stamps ≡ length vs
+  pub order-long : length order ≡ length vs
+  pub apart : VarByStamp (stampsOf ts vs) vs
+
 -- What safety needs of an order of n variables.
 pub record Ordering (n : ℕ) (order : List ℕ) : Type 0 where
   pub long : length order ≡ n
-  pub vars : (i : ℕ) → i < n → getD order i 0 < n
+  pub vars : Vars n order
 
 -- What safety needs of the literals of all clauses.
 pub record Literals (n : ℕ) (codes : List ℕ) : Type 0 where

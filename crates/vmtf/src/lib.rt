@@ -8,10 +8,11 @@ ghost use lib.ListN.{length, getD, replicate};
 ghost use Rattle.laws.specs.InPlace.{upTo};
 ghost use Rattle.lit.specs.Numbers.{NONE as none};
 ghost use Rattle.vmtf.specs.Vmtf as spec;
-ghost use Rattle.vmtf.specs.Vmtf.{vmtfOf, Links, Safe, Ends, Ordering, Literals, Scratch, Fresh};
+ghost use Rattle.vmtf.specs.Vmtf.{vmtfOf, Links, Safe, Ends, Vars, Group, Ordering, Literals, Scratch, Fresh};
 use lit::NONE;
 use lit::UNASSIGNED;
 use lit::index;
+use util::sort_by_stamp;
 use util::sort_reverse;
 
 // The largest stamp.
@@ -255,6 +256,75 @@ pub fn move_to_front(
     }
     let moved = relink(next, prev, ts, s, tomove);
     tick(next, ts, moved)
+}
+
+// Copies a group and puts each variable's stamp beside it.
+fn read_stamps(ts: &[u64], vars: &[u32], stamps: &mut [u64], order: &mut [u32])
+    requires { ⌜ Vars (length (now ts)) (now vars) ⌝ }
+    requires { ⌜ (length (now stamps) ≡ length (now vars)) × (length (now order) ≡ length (now vars)) ⌝ }
+    ensures { λ _. ⌜ (now (stamps .exit) ≡ spec.stampsOf (now (ts .entry)) (now (vars .entry))) × (now (order .exit) ≡ now (vars .entry)) ⌝ }
+{
+    let mut i = 0;
+    while i < vars.len() {
+        let v = vars[i];
+        stamps[i] = ts[v as usize];
+        order[i] = v;
+        i += 1;
+    }
+}
+
+// The variables of a group, rising by their stamps.
+fn group_order(ts: &[u64], vars: &[u32], stamps: &mut [u64], order: &mut [u32])
+    requires { ⌜ Group (now vars) (now ts) (now stamps) (now order) ⌝ }
+    ensures { λ _. ⌜ now (order .exit) ≡ spec.byStamp (now (ts .entry)) (now (vars .entry)) ⌝ }
+{
+    read_stamps(ts, vars, stamps, order);
+    sort_by_stamp(stamps, order);
+}
+
+// Moves variables to the front, one after the other.
+fn move_all(
+    next: &mut [u32],
+    prev: &mut [u32],
+    ts: &mut [u64],
+    s: VmtfState,
+    vars: &[u32],
+) -> VmtfState
+    requires { ⌜ Safe (length (now next)) (vmtfOf (now next) (now prev) (now ts) s) ⌝ }
+    requires { ⌜ Vars (length (now next)) (now vars) ⌝ }
+    ensures { λ r. ⌜ vmtfOf (now (next .exit)) (now (prev .exit)) (now (ts .exit)) r
+        ≡ spec.moveAll (now (vars .entry)) (vmtfOf (now (next .entry)) (now (prev .entry)) (now (ts .entry)) s) ⌝ }
+{
+    let mut state = s;
+    let mut i = 0;
+    while i < vars.len() {
+        state = move_to_front(next, prev, ts, state, vars[i]);
+        i += 1;
+    }
+    state
+}
+
+// Moves a group to the front, in rising order of the stamps that its variables have at entry. The stamps and the order are scratch.
+pub fn bump_vec_of_vars(
+    next: &mut [u32],
+    prev: &mut [u32],
+    ts: &mut [u64],
+    s: VmtfState,
+    vars: &[u32],
+    stamps: &mut [u64],
+    order: &mut [u32],
+) -> VmtfState
+    requires { ⌜ Safe (length (now next)) (vmtfOf (now next) (now prev) (now ts) s) ⌝ }
+    requires { ⌜ Group (now vars) (now ts) (now stamps) (now order) ⌝ }
+    ensures { λ r. ⌜ vmtfOf (now (next .exit)) (now (prev .exit)) (now (ts .exit)) r
+        ≡ spec.bumpVecOfVars (now (vars .entry)) (vmtfOf (now (next .entry)) (now (prev .entry)) (now (ts .entry)) s) ⌝ }
+    ensures { λ _. ⌜ (now (stamps .exit) ≡ replicate (length (now (vars .entry))) 0) × (now (order .exit) ≡ replicate (length (now (vars .entry))) 0) ⌝ }
+{
+    group_order(ts, vars, stamps, order);
+    let r = move_all(next, prev, ts, s, order);
+    clear(stamps);
+    fill(order, 0);
+    r
 }
 
 // The first open variable along the next links from curr on, or NONE.

@@ -50,7 +50,7 @@ var-at-requires c κs = search needs
 
 -- what stands at place i of the order is a variable
 here : (c : tie.After-var-at Inv-loop μ-loop) → getD (c .before .before .before .before .before .before .before .before .args .order .now) (c .before .before .before .loop .i) 0 < length (c .before .before .before .before .before .before .before .before .args .next .now)
-here c = c .before .before .before .before .before .before .before .before .pre .0 .vars _ (omega (arith, c .before .before .before .before .before .before .before .before .pre .0 .long))
+here c = c .before .before .before .before .before .before .before .before .pre .0 .vars _ (omega arith)
 
 -- src/lib.rt:101:14
 cast-next : tie.Need-cast-next Inv-loop μ-loop
