@@ -6,3 +6,5 @@ pub mod Every
 pub mod Some
 pub mod Pigeonhole
 pub mod Prefix
+pub mod InPlace
+pub mod Parts

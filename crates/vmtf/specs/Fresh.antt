@@ -1,0 +1,126 @@
+-- A fresh list is good: `new-good`. Assumes nothing.
+use Prim.Native.Nat.{ℕ, zero, suc, _+_, _-_, _<_, _≤_}
+use mathlib.Core.Path.{_≡_, refl, sym, ap, _∙_}
+use mathlib.Core.Logic.{_≢_, by-cases}
+use mathlib.Core.List.{List, [], _∷_}
+use native.Mathlib.Omega.{arith}
+use native.Mathlib.Decide.{ℕ-discrete, decLt}
+use native.Mathlib.Numerals.{add-one}
+use lib.ListN.{length, getD, set, replicate, length-set, length-replicate}
+use lib.Seq.{getD-set-same, getD-set-other}
+use Rattle.laws.specs.InPlace.{upTo, length-upTo, getD-upTo}
+use Rattle.lit.specs.Numbers.{NONE}
+use Rattle.util.specs.Pairs.{same-sym, stood}
+use Rattle.util.specs.SortReverse.{sortReverse}
+use Rattle.vmtf.specs.Vmtf.{Vmtf, countLits, litOrder, first, linked, linkFrom, makeLinkedList, new}
+use Rattle.vmtf.specs.Laws.{length-count, lit-pairs, lit-ordering}
+use Rattle.vmtf.specs.Order.{count, count-here, count-there, count-more, count-head, count-nil, first-in, at-every, every-at}
+use Rattle.vmtf.specs.Good.{Row, Falls, Linked, GoodList, every-once}
+
+-- ---- linking
+
+-- the numbers, and the lengths, stay
+pub record Same (l m : Vmtf) : Type 0 where
+  pub next-long : length (m .next) ≡ length (l .next)
+  pub prev-long : length (m .prev) ≡ length (l .prev)
+  pub ts-long : length (m .ts) ≡ length (l .ts)
+  pub start : m .start ≡ l .start
+  pub search : m .search ≡ l .search
+  pub timestamp : m .timestamp ≡ l .timestamp
+
+link-same : (p : ℕ) (vs : List ℕ) (l : Vmtf) → Same l (linkFrom p vs l)
+unfolding linkFrom
+link-same p [] l = record { next-long = refl; prev-long = refl; ts-long = refl; start = refl; search = refl; timestamp = refl }
+link-same p (v ∷ vs) l =
+    let s = link-same v vs (linked p v (first vs) (length (v ∷ vs)) l) in
+    record {
+      next-long = s .next-long ∙ length-set (l .next) v (first vs);
+      prev-long = s .prev-long ∙ length-set (l .prev) v p;
+      ts-long = s .ts-long ∙ length-set (l .ts) v (length (v ∷ vs));
+      start = s .start;
+      search = s .search;
+      timestamp = s .timestamp;
+    }
+
+-- what is not in the order stays
+pub record Kept (w : ℕ) (l m : Vmtf) : Type 0 where
+  pub next : getD (m .next) w 0 ≡ getD (l .next) w 0
+  pub prev : getD (m .prev) w 0 ≡ getD (l .prev) w 0
+  pub ts : getD (m .ts) w 0 ≡ getD (l .ts) w 0
+
+link-kept : (p : ℕ) (vs : List ℕ) (l : Vmtf) (w : ℕ) → count w vs ≡ 0 → Kept w l (linkFrom p vs l)
+unfolding linkFrom
+link-kept p [] l w e = record { next = refl; prev = refl; ts = refl }
+link-kept p (v ∷ vs) l w e =
+    let d : w ≢ v = λ z. omega (arith, count-here w v vs (sym z)) in
+    let k = link-kept v vs (linked p v (first vs) (length (v ∷ vs)) l) w (omega (arith, count-more w v vs)) in
+    record {
+      next = k .next ∙ getD-set-other (l .next) v w (first vs) 0 d;
+      prev = k .prev ∙ getD-set-other (l .prev) v w p 0 d;
+      ts = k .ts ∙ getD-set-other (l .ts) v w (length (v ∷ vs)) 0 d;
+    }
+
+-- what is in the order is linked and stamped
+link-row : (p : ℕ) (vs : List ℕ) (l : Vmtf) → ((w : ℕ) → count w vs ≤ 1) → ((w : ℕ) → 0 < count w vs → (w < length (l .next)) × (w < length (l .prev)) × (w < length (l .ts)))
+    → Row (linkFrom p vs l .next) (linkFrom p vs l .prev) p vs × Falls (linkFrom p vs l .ts) (length vs + 1) vs
+unfolding linkFrom Row Falls
+link-row p [] l once h = (tt, tt)
+link-row p (v ∷ vs) l once h =
+    let m : Vmtf = linked p v (first vs) (length (v ∷ vs)) l in
+    let k : Kept v m (linkFrom v vs m) = link-kept v vs m v (omega (arith, once v, count-here v v vs refl)) in
+    let b = h v (count-head v vs) in
+    let stamp : getD (linkFrom v vs m .ts) v 0 ≡ suc (length vs) = k .ts ∙ getD-set-same (l .ts) v (length (v ∷ vs)) 0 (b .2) in
+    let t = link-row v vs m (λ w. omega (arith, once w, count-more w v vs)) (λ w q. let r = h w (omega (arith, count-more w v vs)) in (simp length-set (r .0), simp length-set (r .1), simp length-set (r .2))) in (
+      (k .prev ∙ getD-set-same (l .prev) v p 0 (b .1), k .next ∙ getD-set-same (l .next) v (first vs) 0 (b .0), t .0),
+      rw stamp (omega arith, rw add-one at (t .1)),
+    )
+
+module _ (n : ℕ) (order : List ℕ) (small : n ≤ NONE) (long : length order ≡ n) (vars : (v : ℕ) → 0 < count v order → v < n) (once : (v : ℕ) → v < n → count v order ≡ 1) where
+  pub make-good : GoodList n order (makeLinkedList order)
+  unfolding makeLinkedList
+  make-good =
+      let l : Vmtf = record {
+        next = replicate (length order) NONE;
+        prev = replicate (length order) NONE;
+        ts = replicate (length order) 0;
+        start = first order;
+        search = first order;
+        timestamp = length order + 1;
+      } in
+      let s = link-same NONE order l in
+      let most : (w : ℕ) → count w order ≤ 1 = λ w. by-cases (decLt 0 (count w order)) (λ h. omega (arith, once w (vars w h))) (λ h. omega arith) in
+      let r = link-row NONE order l most (λ w h.
+      let b : w < length order = omega (arith, vars w h) in
+      (simp length-replicate b, simp length-replicate b, simp length-replicate b)) in
+      record {
+        linked = record {
+          small = small;
+          next-long = s .next-long ∙ length-replicate (length order) NONE ∙ long;
+          prev-long = s .prev-long ∙ length-replicate (length order) NONE ∙ long;
+          vars = vars;
+          once = once;
+          front = s .start;
+          row = r .0;
+        };
+        ts-long = s .ts-long ∙ length-replicate (length order) 0 ∙ long;
+        falls = rw (s .timestamp) (r .1);
+        search-in = λ d. rw (s .search) (vars (first order) (first-in order (λ e. d (s .search ∙ e))));
+      }
+
+-- ---- the order of the counts
+
+module _ (n : ℕ) (codes : List ℕ) where
+  lit-vars : (v : ℕ) → 0 < count v (litOrder n codes) → v < n
+  lit-vars = at-every (λ v. v < n) (litOrder n codes) (lit-ordering n codes .vars)
+
+  -- each variable stands in the list of pairs, before the sort and so after it
+  lit-every : (v : ℕ) → v < n → 0 < count v (litOrder n codes)
+  lit-every v h =
+      let r = stood (same-sym (lit-pairs n codes)) v (omega (arith, length-count (replicate n 0) codes, length-replicate {A = ℕ} n 0)) (omega (arith, length-upTo n)) in
+      rw (r .is-right ∙ getD-upTo n v h) at (every-at (litOrder n codes) (r .place) (r .in-right))
+
+  pub new-good : n ≤ NONE → GoodList n (litOrder n codes) (new n codes)
+  unfolding new
+  new-good small =
+      let long : length (litOrder n codes) ≡ n = lit-ordering n codes .long in
+      make-good n (litOrder n codes) small long lit-vars (every-once n (litOrder n codes) lit-vars lit-every long)
