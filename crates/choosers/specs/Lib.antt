@@ -1,0 +1,2 @@
+-- The choosers of both modes, and that each meets the book's interface.
+pub mod List
