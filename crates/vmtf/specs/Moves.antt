@@ -147,17 +147,21 @@ module _ (next : List ℕ) (small : length next ≤ NONE) where
 
 -- ---- the whole move
 
+-- stamping the list anew makes its stamps good, whatever they were
+pub rescore-good : {n : ℕ} {order : List ℕ} {l : Vmtf} → Linked n order l → length (l .ts) ≡ n → (l .search ≢ NONE → l .search < n) → GoodList n order (rescore l)
+unfolding rescore
+rescore-good {n} {order} {l} k t s = record {
+  linked = record { small = k .small; next-long = k .next-long; prev-long = k .prev-long; vars = k .vars; once = k .once; front = k .front; row = k .row };
+  ts-long = length-renumber (l .next) (length (l .next)) (l .start) (l .ts) ∙ t;
+  falls = renumber-falls (l .next) (few k) order (length (l .next)) (l .start) (l .ts) (chain k) (omega (arith, order-length k, k .next-long)) (at-most k) (λ w h. omega (arith, k .vars w h, t));
+  search-in = s;
+}
+
 -- the stamp of the front may be the timestamp itself: after it the timestamp is above every stamp again
 tick-good : {n : ℕ} {order : List ℕ} {l : Vmtf} → Linked n order l → length (l .ts) ≡ n → Falls (l .ts) (l .timestamp + 1) order → (l .search ≢ NONE → l .search < n) → GoodList n order (tick l)
-unfolding tick rescore
+unfolding tick
 tick-good {n} {order} {l} k t f s =
-    cond-elim (GoodList n order) (eqb (l .timestamp) maxStamp)
-    (λ e. record {
-      linked = record { small = k .small; next-long = k .next-long; prev-long = k .prev-long; vars = k .vars; once = k .once; front = k .front; row = k .row };
-      ts-long = length-renumber (l .next) (length (l .next)) (l .start) (l .ts) ∙ t;
-      falls = renumber-falls (l .next) (few k) order (length (l .next)) (l .start) (l .ts) (chain k) (omega (arith, order-length k, k .next-long)) (at-most k) (λ w h. omega (arith, k .vars w h, t));
-      search-in = s;
-    })
+    cond-elim (GoodList n order) (eqb (l .timestamp) maxStamp) (λ e. rescore-good k t s)
     (λ e. record {
       linked = record { small = k .small; next-long = k .next-long; prev-long = k .prev-long; vars = k .vars; once = k .once; front = k .front; row = k .row };
       ts-long = t;

@@ -258,6 +258,14 @@ pub fn move_to_front(
     tick(next, ts, moved)
 }
 
+// The stamp of a variable.
+fn stamp_of(ts: &[u64], v: u32) -> u64
+    requires { ⌜ v < length (now ts) ⌝ }
+    ensures { λ r. ⌜ r ≡ getD (now (ts .entry)) v 0 ⌝ }
+{
+    ts[v as usize]
+}
+
 // Copies a group and puts each variable's stamp beside it.
 fn read_stamps(ts: &[u64], vars: &[u32], stamps: &mut [u64], order: &mut [u32])
     requires { ⌜ Vars (length (now ts)) (now vars) ⌝ }
@@ -267,7 +275,7 @@ fn read_stamps(ts: &[u64], vars: &[u32], stamps: &mut [u64], order: &mut [u32])
     let mut i = 0;
     while i < vars.len() {
         let v = vars[i];
-        stamps[i] = ts[v as usize];
+        stamps[i] = stamp_of(ts, v);
         order[i] = v;
         i += 1;
     }
@@ -296,10 +304,10 @@ fn move_all(
         ≡ spec.moveAll (now (vars .entry)) (vmtfOf (now (next .entry)) (now (prev .entry)) (now (ts .entry)) s) ⌝ }
 {
     let mut state = s;
-    let mut i = 0;
-    while i < vars.len() {
-        state = move_to_front(next, prev, ts, state, vars[i]);
-        i += 1;
+    let mut k = 0;
+    while k < vars.len() {
+        state = move_to_front(next, prev, ts, state, vars[k]);
+        k += 1;
     }
     state
 }

@@ -19,10 +19,10 @@ record Moving (vars : List ℕ) (n : ℕ) (goal : Vmtf) (i : ℕ) (l : Vmtf) : T
   rest : moveAll (drop i vars) l ≡ goal
 
 abbrev Inv-loop : tie.InvT-loop
-Inv-loop next₀ prev₀ ts₀ vars state₀ i₀ next prev ts state i = Moving vars (length next₀) (moveAll vars (vmtfOf next₀ prev₀ ts₀ state₀)) i (vmtfOf next prev ts state)
+Inv-loop next₀ prev₀ ts₀ vars state₀ k₀ next prev ts state k = Moving vars (length next₀) (moveAll vars (vmtfOf next₀ prev₀ ts₀ state₀)) k (vmtfOf next prev ts state)
 
 abbrev μ-loop : tie.MeasureT-loop
-μ-loop next₀ prev₀ ts₀ vars state₀ i₀ next prev ts state i = length vars - i
+μ-loop next₀ prev₀ ts₀ vars state₀ k₀ next prev ts state k = length vars - k
 
 -- src/lib.rt:291:5
 loop-holds : tie.Need-loop-holds Inv-loop μ-loop
@@ -43,8 +43,8 @@ move-to-front-requires c κs =
     rw (v .safe .links .next-long) (v .safe, c .before .before .before .before .before .before .before .before .before .before .pre .1 _ (omega arith))
 
 -- src/lib.rt:293:9
-add-i : tie.Need-add-i Inv-loop μ-loop
-add-i c = search needs
+add-k : tie.Need-add-k Inv-loop μ-loop
+add-k c = search needs
 
 -- src/lib.rt:291:5
 loop-less : tie.Need-loop-less Inv-loop μ-loop
@@ -54,7 +54,7 @@ loop-less c = omega arith
 loop-again : tie.Need-loop-again Inv-loop μ-loop
 loop-again c =
     let v = c .before .before .before .before .before .before .before .before .before .before .before .before .loop .inv in
-    let h : c .before .before .before .before .before .before .before .before .before .before .before .before .loop .i < length (c .before .before .before .before .before .before .before .before .before .before .before .before .before .before .before .before .before .args .vars .now) = omega arith in
+    let h : c .before .before .before .before .before .before .before .before .before .before .before .before .loop .k < length (c .before .before .before .before .before .before .before .before .before .before .before .before .before .before .before .before .before .args .vars .now) = omega arith in
     let e = c .before .before .before .before .before .before .move-to-front .ensures in
     record { at = omega arith; safe = rw e (move-safe (v .safe) (c .before .before .before .before .before .before .before .before .before .before .before .before .before .before .before .before .before .pre .1 _ h)); rest = rw e (sym (moves-step _ _ _ h) ∙ v .rest) }
 
@@ -72,7 +72,7 @@ same-length-3 c = c .before .loop .inv .safe .ts-long ∙ sym (c .before .before
 
 -- src/lib.rt:277:1
 returns : tie.Need-returns Inv-loop μ-loop
-returns c = let h : length (c .before .before .before .before .before .before .args .vars .now) ≤ c .before .loop .i = omega arith in sym (moves-end _ _ _ h) ∙ c .before .loop .inv .rest
+returns c = let h : length (c .before .before .before .before .before .before .args .vars .now) ≤ c .before .loop .k = omega arith in sym (moves-end _ _ _ h) ∙ c .before .loop .inv .rest
 
 pub move-all-spec : {M : Type 1} → statement M
 move-all-spec =
@@ -84,7 +84,7 @@ move-all-spec =
     mul-move-to-front
     shared-slice-read-move-to-front
     move-to-front-requires
-    add-i
+    add-k
     loop-less
     loop-again
     same-length
