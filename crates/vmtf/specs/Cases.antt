@@ -1,7 +1,7 @@
 -- Cases A to E of document 01 in list mode, computed from the definitions. Assumes nothing.
 use Prim.Native.Nat.{ℕ}
 use mathlib.Core.Path.{_≡_, refl}
-use mathlib.Core.List.{List, [], _∷_}
+use mathlib.Core.List.{[], _∷_}
 use Rattle.laws.specs.InPlace.{upTo}
 use Rattle.lit.specs.Numbers.{NONE}
 use Rattle.util.specs.SortReverse.{pick, greatest, sortFrom, sortReverse}

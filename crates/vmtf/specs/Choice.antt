@@ -1,8 +1,8 @@
 -- What a decide finds in a good list: `next-right` and `nothing-exactly`. Assumes nothing.
-use Prim.Native.Nat.{ℕ, zero, suc, _<_, _≤_}
+use Prim.Native.Nat.{ℕ, _<_}
 use mathlib.Core.Path.{_≡_, refl, sym, subst, _∙_}
 use mathlib.Core.Logic.{_↔_}
-use mathlib.Core.Bool.{Bool, true, false, cond, false≢true}
+use mathlib.Core.Bool.{true, false, false≢true}
 use mathlib.Core.List.{List}
 use native.Mathlib.Omega.{arith}
 use lib.ListN.{length, getD}
@@ -11,12 +11,11 @@ use borrow.Author.Tests.{eqb-false, ltb-true, leb-true, leb-false, lt-ltb, le-lt
 use Rattle.laws.specs.Tests.{cond-elim, not-true}
 use Rattle.lit.specs.Numbers.{NONE, unassigned}
 use Rattle.lit.specs.Lits.{isAssigned}
-use Rattle.vmtf.specs.declared.VmtfState.{VmtfState}
 use Rattle.vmtf.specs.declared.Next.{Next}
 use Rattle.vmtf.specs.declared.Next.the-variants.{Chose, Nothing, Stuck}
-use Rattle.vmtf.specs.Vmtf.{Vmtf, vmtfOf, past, insert, isOpen, from, firstOpen, anyOpen, getNext, Safe}
+use Rattle.vmtf.specs.Vmtf.{Vmtf, vmtfOf, past, insert, isOpen, from, firstOpen, anyOpen, getNext}
 use Rattle.vmtf.specs.Laws.{found, any-open, none-open}
-use Rattle.vmtf.specs.Good.{Linked, GoodList, good-safe, good-ends}
+use Rattle.vmtf.specs.Good.{GoodList, good-safe, good-ends}
 
 -- what a reply says: the variable chosen is unassigned, and the list is as good as before with search behind it;
 -- no variable is unassigned; or some variable is

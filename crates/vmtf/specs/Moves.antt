@@ -1,12 +1,10 @@
 -- A move keeps a good list good, and on the plain order it takes the variable out and puts it first: `move-good`.
 -- Assumes nothing.
-use Prim.Native.Nat.{ℕ, zero, suc, _+_, _-_, _<_, _≤_}
+use Prim.Native.Nat.{ℕ, _+_, _-_, _<_, _≤_}
 use mathlib.Core.Path.{_≡_, refl, sym, ap, _∙_}
-use mathlib.Core.Logic.{_≢_, by-cases}
-use mathlib.Core.Bool.{cond}
+use mathlib.Core.Logic.{_≢_}
 use mathlib.Core.List.{List, [], _∷_}
 use native.Mathlib.Omega.{arith}
-use native.Mathlib.Decide.{ℕ-discrete, decLt}
 use lib.ListN.{length, getD, set, length-set}
 use lib.Seq.{getD-set-same, getD-set-other}
 use lib.Dec.{eqb, leb}
@@ -15,9 +13,9 @@ use Rattle.laws.specs.Tests.{cond-elim}
 use Rattle.laws.specs.Lists.{set-cases}
 use Rattle.lit.specs.Numbers.{NONE}
 use Rattle.vmtf.specs.Vmtf.{Vmtf, maxStamp, first, renumber, rescore, relink, tick, moveToFront, moveAll, insertByStamp, byStamp, bumpVecOfVars, Chain}
-use Rattle.vmtf.specs.Laws.{renumber-none, renumber-step, length-renumber, relink-safe}
-use Rattle.vmtf.specs.Order.{count, remove, toFront, allToFront, after, before, count-here, count-there, count-more, count-head, count-nil, count-cons, count-swap, remove-count-same, remove-count-other, front-count, first-remove, front-front, remove-here, remove-there, after-here, after-there, before-here, before-there, after-in, before-some, before-first, before-other, after-self, after-before, before-after, after-cut, after-kept, before-cut, before-kept}
-use Rattle.vmtf.specs.Good.{Row, Falls, Linked, GoodList, beside-row, falls-below, falls-weaken, falls-frame, falls-once, order-length, in-order, at-most, next-is, prev-is, few, chain, start-in}
+use Rattle.vmtf.specs.Laws.{renumber-none, renumber-step, length-renumber}
+use Rattle.vmtf.specs.Order.{count, remove, toFront, allToFront, after, before, count-here, count-there, count-more, count-head, count-cons, count-swap, remove-count-same, front-count, first-remove, front-front, after-here, after-there, before-here, before-there, after-in, before-some, before-first, before-other, after-self, after-before, before-after, after-cut, after-kept, before-cut, before-kept}
+use Rattle.vmtf.specs.Good.{Falls, Linked, GoodList, beside-row, falls-weaken, falls-frame, order-length, in-order, at-most, next-is, prev-is, few, chain, start-in}
 
 module _ {n : ℕ} {order : List ℕ} {l : Vmtf} (k : Linked n order l) (v : ℕ) (v-in : v < n) (back : v ≢ l .start) where
   abbrev P : ℕ

@@ -1,17 +1,14 @@
 -- The loop's invariant: the first i places hold the stamps and the variables of the group, the others what they held.
-use Prim.Native.Nat.{ℕ, _+_, _≤_, _<_, _-_}
+use Prim.Native.Nat.{ℕ, _≤_, _<_, _-_}
 use mathlib.Core.Path.{_≡_, refl, sym, _∙_}
 use mathlib.Core.List.{List}
 use native.Mathlib.Omega.{arith}
 use borrow.Author.Needs.{needs}
-use lib.ListN.{length, getD, length-set, length-map}
+use lib.ListN.{length, length-set, length-map}
 use Rattle.vmtf.specs.Vmtf.{stampsOf}
 use Rattle.vmtf.specs.Laws.{copied, copied-next, copied-end, stamp-at}
-use Rattle.vmtf.proofs.read_stamps.Statement.{statement}
-use Rattle.vmtf.proofs.read_stamps.Tie as tie
-use Rattle.vmtf.proofs.read_stamps.Reads as reads
-use Rattle.vmtf.proofs.read_stamps.Lts as lts
-use Rattle.vmtf.proofs.stamp_of.Reads as stamp-of-reads
+use Rattle.vmtf.proofs.order.read_stamps.Statement.{statement}
+use Rattle.vmtf.proofs.order.read_stamps.Tie as tie
 
 record Reading (group vars stamps₀ order₀ : List ℕ) (i : ℕ) (stamps order : List ℕ) : Type 0 where
   at : i ≤ length vars
@@ -26,47 +23,21 @@ Inv-loop ts vars stamps₀ order₀ i₀ stamps order i = Reading (stampsOf ts v
 abbrev μ-loop : tie.MeasureT-loop
 μ-loop ts vars stamps₀ order₀ i₀ stamps order i = length vars - i
 
--- src/lib.rt:276:5
 loop-holds : tie.Need-loop-holds Inv-loop μ-loop
 loop-holds c = let s = c .before .before .before .before .pre in record { at = omega arith; stamps-are = refl; order-are = refl; stamps-long = s .1 .0; order-long = s .1 .1 }
 
--- src/lib.rt:277:17
-mul-v : tie.Need-mul-v Inv-loop μ-loop
-mul-v c = search needs
-
--- src/lib.rt:277:17
-shared-slice-read-v : tie.Need-shared-slice-read-v Inv-loop μ-loop
-shared-slice-read-v c = search needs
-
--- src/lib.rt:278:21
 stamp-of-requires : tie.Need-stamp-of-requires Inv-loop μ-loop
 stamp-of-requires c κs = c .before .before .before .before .before .before .before .pre .0 _ (omega arith)
 
--- src/lib.rt:278:9
 mul-stamps : tie.Need-mul-stamps Inv-loop μ-loop
 mul-stamps c = omega (arith, c .before .before .before .loop .inv .stamps-long, c .before .before .before .before .before .before .before .before .pre .1 .0)
 
--- src/lib.rt:278:9
 slice-write-stamps : tie.Need-slice-write-stamps Inv-loop μ-loop
 slice-write-stamps c = omega (arith, c .before .before .before .loop .inv .stamps-long)
 
--- src/lib.rt:279:9
-mul-order : tie.Need-mul-order Inv-loop μ-loop
-mul-order c = omega arith
-
--- src/lib.rt:279:9
 slice-write-order : tie.Need-slice-write-order Inv-loop μ-loop
 slice-write-order c = omega (arith, c .before .before .before .loop .inv .order-long)
 
--- src/lib.rt:280:9
-add-i : tie.Need-add-i Inv-loop μ-loop
-add-i c = search needs
-
--- src/lib.rt:276:5
-loop-less : tie.Need-loop-less Inv-loop μ-loop
-loop-less c = omega arith
-
--- src/lib.rt:276:5
 loop-again : tie.Need-loop-again Inv-loop μ-loop
 loop-again c =
     let s = c .before .before .before .before .before .before .before .before in
@@ -82,15 +53,12 @@ loop-again c =
       order-long = simp length-set (v .order-long);
     }
 
--- src/lib.rt:270:1
 same-length : tie.Need-same-length Inv-loop μ-loop
 same-length c = c .before .loop .inv .stamps-long ∙ sym (c .before .before .before .before .before .before .pre .1 .0)
 
--- src/lib.rt:270:1
 same-length-2 : tie.Need-same-length-2 Inv-loop μ-loop
 same-length-2 c = c .before .loop .inv .order-long ∙ sym (c .before .before .before .before .before .before .pre .1 .1)
 
--- src/lib.rt:270:1
 returns : tie.Need-returns Inv-loop μ-loop
 returns c =
     let s = c .before .before .before .before .before .before in
@@ -108,15 +76,15 @@ read-stamps-spec =
     Inv-loop
     μ-loop
     loop-holds
-    mul-v
-    shared-slice-read-v
+    (λ c. search needs)
+    (λ c. search needs)
     stamp-of-requires
     mul-stamps
     slice-write-stamps
-    mul-order
+    (λ c. search needs)
     slice-write-order
-    add-i
-    loop-less
+    (λ c. search needs)
+    (λ c. search needs)
     loop-again
     same-length
     same-length-2
