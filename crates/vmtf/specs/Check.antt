@@ -1,8 +1,8 @@
 -- The check of a lent list says yes to the good lists and to no others: `check-good`. Assumes nothing.
-use Prim.Native.Nat.{ℕ, zero, suc, _+_, _<_, _≤_}
+use Prim.Native.Nat.{ℕ, zero, suc, _<_, _≤_}
 use mathlib.Core.Path.{_≡_, refl, sym, ap, _∙_}
 use mathlib.Core.Logic.{_≢_, _↔_, by-cases}
-use mathlib.Core.Bool.{Bool, true, false, _&&_, _||_}
+use mathlib.Core.Bool.{true, _&&_, _||_}
 use mathlib.Core.List.{List, [], _∷_}
 use native.Mathlib.Omega.{arith}
 use native.Mathlib.Decide.{ℕ-discrete}
@@ -12,8 +12,8 @@ use borrow.Author.Tests.{eqb-true, eq-eqb, ne-eqb, ltb-true, lt-ltb}
 use Rattle.laws.specs.Tests.{and-left, and-right, and-both}
 use Rattle.lit.specs.Numbers.{NONE}
 use Rattle.vmtf.specs.Vmtf.{Vmtf, first, stands, checkRow, checkList}
-use Rattle.vmtf.specs.Order.{count, count-here, count-there, count-more, count-head, count-nil}
-use Rattle.vmtf.specs.Good.{Row, Falls, Linked, GoodList, falls-once, length-once, order-length}
+use Rattle.vmtf.specs.Order.{count, count-there, count-more, count-head, count-nil}
+use Rattle.vmtf.specs.Good.{Row, Falls, GoodList, falls-once, length-once, order-length}
 
 -- what the walk of the check shows: an order of k variables from c on, which come after p with stamps below b
 pub record Walked (l : Vmtf) (k p b c : ℕ) : Type 0 where

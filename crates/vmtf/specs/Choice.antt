@@ -1,8 +1,8 @@
 -- What a decide finds in a good list: `next-right` and `nothing-exactly`. Assumes nothing.
-use Prim.Native.Nat.{ℕ, zero, suc, _<_, _≤_}
+use Prim.Native.Nat.{ℕ, _<_}
 use mathlib.Core.Path.{_≡_, refl, sym, subst, _∙_}
 use mathlib.Core.Logic.{_↔_}
-use mathlib.Core.Bool.{Bool, true, false, cond, false≢true}
+use mathlib.Core.Bool.{true, false, false≢true}
 use mathlib.Core.List.{List}
 use native.Mathlib.Omega.{arith}
 use lib.ListN.{length, getD}
@@ -11,12 +11,11 @@ use borrow.Author.Tests.{eqb-false, ltb-true, leb-true, leb-false, lt-ltb, le-lt
 use Rattle.laws.specs.Tests.{cond-elim, not-true}
 use Rattle.lit.specs.Numbers.{NONE, unassigned}
 use Rattle.lit.specs.Lits.{isAssigned}
-use Rattle.vmtf.specs.declared.VmtfState.{VmtfState}
 use Rattle.vmtf.specs.declared.Next.{Next}
 use Rattle.vmtf.specs.declared.Next.the-variants.{Chose, Nothing, Stuck}
-use Rattle.vmtf.specs.Vmtf.{Vmtf, vmtfOf, isOpen, from, firstOpen, anyOpen, getNext, Safe}
+use Rattle.vmtf.specs.Vmtf.{Vmtf, vmtfOf, past, insert, isOpen, from, firstOpen, anyOpen, getNext}
 use Rattle.vmtf.specs.Laws.{found, any-open, none-open}
-use Rattle.vmtf.specs.Good.{Linked, GoodList, good-safe, good-ends}
+use Rattle.vmtf.specs.Good.{GoodList, good-safe, good-ends}
 
 -- what a reply says: the variable chosen is unassigned, and the list is as good as before with search behind it;
 -- no variable is unassigned; or some variable is
@@ -24,6 +23,11 @@ abbrev pub NextIs : ℕ → List ℕ → List ℕ → Vmtf → Next → Type 0
 NextIs n order values l (Chose s v) = (v < n) × (isAssigned values v ≡ false) × GoodList n order (vmtfOf (l .next) (l .prev) (l .ts) s)
 NextIs n order values l Nothing = (v : ℕ) → v < n → isAssigned values v ≡ true
 NextIs n order values l Stuck = ¬ ((v : ℕ) → v < n → isAssigned values v ≡ true)
+
+-- a variable that becomes unassigned leaves the list good
+pub insert-good : {n : ℕ} {order : List ℕ} {l : Vmtf} (v : ℕ) → GoodList n order l → GoodList n order (insert v l)
+unfolding insert
+insert-good v g = g
 
 -- open is unassigned
 pub open-unassigned : (values : List ℕ) (v : ℕ) → isOpen values v ≡ true → isAssigned values v ≡ false
@@ -40,8 +44,8 @@ assigned-shut values v e = lt-leb unassigned (getD values v 0) (ltb-true (getD v
 
 module _ {n : ℕ} {order : List ℕ} {l : Vmtf} (g : GoodList n order l) (values : List ℕ) (long : length values ≡ n) where
   -- search moves, and nothing else
-  past : (v : ℕ) → v < n → GoodList n order (record { next = l .next; prev = l .prev; ts = l .ts; start = l .start; search = getD (l .next) v 0; timestamp = l .timestamp })
-  past v h =
+  past-good : (v : ℕ) → v < n → GoodList n order (vmtfOf (l .next) (l .prev) (l .ts) (past v l))
+  past-good v h =
       let k = g .linked in
       record {
         linked = record { small = k .small; next-long = k .next-long; prev-long = k .prev-long; vars = k .vars; once = k .once; front = k .front; row = k .row };
@@ -61,7 +65,7 @@ module _ {n : ℕ} {order : List ℕ} {l : Vmtf} (g : GoodList n order l) (value
       (λ e.
       let r = found (good-ends g) values v refl (eqb-false v NONE e) in
       let h : v < n = omega (arith, r .0, g .linked .next-long) in
-      (h, open-unassigned values v (r .1), past v h))
+      (h, open-unassigned values v (r .1), past-good v h))
 
   -- none exactly when no variable is unassigned
   pub nothing-exactly : (getNext values l ≡ Nothing) ↔ ((v : ℕ) → v < n → isAssigned values v ≡ true)

@@ -1,21 +1,20 @@
 -- A fresh list is good: `new-good`. Assumes nothing.
-use Prim.Native.Nat.{ℕ, zero, suc, _+_, _-_, _<_, _≤_}
-use mathlib.Core.Path.{_≡_, refl, sym, ap, _∙_}
+use Prim.Native.Nat.{ℕ, suc, _+_, _-_, _<_, _≤_}
+use mathlib.Core.Path.{_≡_, refl, sym, _∙_}
 use mathlib.Core.Logic.{_≢_, by-cases}
 use mathlib.Core.List.{List, [], _∷_}
 use native.Mathlib.Omega.{arith}
-use native.Mathlib.Decide.{ℕ-discrete, decLt}
+use native.Mathlib.Decide.{decLt}
 use native.Mathlib.Numerals.{add-one}
-use lib.ListN.{length, getD, set, replicate, length-set, length-replicate}
+use lib.ListN.{length, getD, replicate, length-set, length-replicate}
 use lib.Seq.{getD-set-same, getD-set-other}
-use Rattle.laws.specs.InPlace.{upTo, length-upTo, getD-upTo}
+use Rattle.laws.specs.InPlace.{length-upTo, getD-upTo}
 use Rattle.lit.specs.Numbers.{NONE}
 use Rattle.util.specs.Pairs.{same-sym, stood}
-use Rattle.util.specs.SortReverse.{sortReverse}
-use Rattle.vmtf.specs.Vmtf.{Vmtf, countLits, litOrder, first, linked, linkFrom, makeLinkedList, new}
+use Rattle.vmtf.specs.Vmtf.{Vmtf, litOrder, first, linked, linkFrom, makeLinkedList, new}
 use Rattle.vmtf.specs.Laws.{length-count, lit-pairs, lit-ordering}
-use Rattle.vmtf.specs.Order.{count, count-here, count-there, count-more, count-head, count-nil, first-in, at-every, every-at}
-use Rattle.vmtf.specs.Good.{Row, Falls, Linked, GoodList, every-once}
+use Rattle.vmtf.specs.Order.{count, count-here, count-more, count-head, first-in, at-every, every-at}
+use Rattle.vmtf.specs.Good.{Row, Falls, GoodList, every-once}
 
 -- ---- linking
 

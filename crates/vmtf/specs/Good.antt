@@ -8,7 +8,7 @@ use native.Mathlib.Omega.{arith}
 use native.Mathlib.Decide.{ℕ-discrete, decLt}
 use lib.ListN.{length, getD}
 use Rattle.lit.specs.Numbers.{NONE}
-use Rattle.vmtf.specs.Vmtf.{Vmtf, first, from, Links, Safe, Chain, Ends}
+use Rattle.vmtf.specs.Vmtf.{Vmtf, first, from, Safe, Chain, Ends}
 use Rattle.vmtf.specs.Laws.{chain-from}
 use Rattle.vmtf.specs.Order.{count, after, before, count-here, count-there, count-more, count-head, count-nil, after-here, after-there, before-here, before-there, after-in, before-some, first-in, first-var}
 

@@ -20,7 +20,7 @@ use Rattle.laws.specs.InPlace.{store-next, upTo, length-upTo, getD-upTo}
 use Rattle.util.specs.Pairs.{SamePairs, stood}
 use Rattle.util.specs.SortReverse.{sortReverse}
 use Rattle.util.specs.Falling.{sort-permutes}
-use Rattle.vmtf.specs.Vmtf.{Vmtf, maxStamp, countLits, litOrder, first, linked, linkFrom, makeLinkedList, renumber, rescore, relink, tick, moveToFront, moveAll, stampsOf, isOpen, from, firstOpen, anyOpen, stands, checkRow, Links, Safe, Chain, Ends, Vars, Ordering}
+use Rattle.vmtf.specs.Vmtf.{Vmtf, maxStamp, countLits, litOrder, first, linked, linkFrom, makeLinkedList, renumber, rescore, relink, tick, moveToFront, moveAll, stampsOf, isOpen, from, firstOpen, anyOpen, stands, checkRow, Safe, Chain, Ends, Vars, Ordering}
 
 -- ---- lists place by place
 

@@ -8,3 +8,4 @@ pub mod Sort
 pub mod Fresh
 pub mod Choice
 pub mod Check
+pub mod Cases

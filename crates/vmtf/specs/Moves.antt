@@ -1,12 +1,10 @@
 -- A move keeps a good list good, and on the plain order it takes the variable out and puts it first: `move-good`.
 -- Assumes nothing.
-use Prim.Native.Nat.{ℕ, zero, suc, _+_, _-_, _<_, _≤_}
+use Prim.Native.Nat.{ℕ, _+_, _-_, _<_, _≤_}
 use mathlib.Core.Path.{_≡_, refl, sym, ap, _∙_}
-use mathlib.Core.Logic.{_≢_, by-cases}
-use mathlib.Core.Bool.{cond}
+use mathlib.Core.Logic.{_≢_}
 use mathlib.Core.List.{List, [], _∷_}
 use native.Mathlib.Omega.{arith}
-use native.Mathlib.Decide.{ℕ-discrete, decLt}
 use lib.ListN.{length, getD, set, length-set}
 use lib.Seq.{getD-set-same, getD-set-other}
 use lib.Dec.{eqb, leb}
@@ -15,9 +13,9 @@ use Rattle.laws.specs.Tests.{cond-elim}
 use Rattle.laws.specs.Lists.{set-cases}
 use Rattle.lit.specs.Numbers.{NONE}
 use Rattle.vmtf.specs.Vmtf.{Vmtf, maxStamp, first, renumber, rescore, relink, tick, moveToFront, moveAll, insertByStamp, byStamp, bumpVecOfVars, Chain}
-use Rattle.vmtf.specs.Laws.{renumber-none, renumber-step, length-renumber, relink-safe}
-use Rattle.vmtf.specs.Order.{count, remove, toFront, allToFront, after, before, count-here, count-there, count-more, count-head, count-nil, count-cons, count-swap, remove-count-same, remove-count-other, front-count, first-remove, front-front, remove-here, remove-there, after-here, after-there, before-here, before-there, after-in, before-some, before-first, before-other, after-self, after-before, before-after, after-cut, after-kept, before-cut, before-kept}
-use Rattle.vmtf.specs.Good.{Row, Falls, Linked, GoodList, beside-row, falls-below, falls-weaken, falls-frame, falls-once, order-length, in-order, at-most, next-is, prev-is, few, chain, start-in}
+use Rattle.vmtf.specs.Laws.{renumber-none, renumber-step, length-renumber}
+use Rattle.vmtf.specs.Order.{count, remove, toFront, allToFront, after, before, count-here, count-there, count-more, count-head, count-cons, count-swap, remove-count-same, front-count, first-remove, front-front, after-here, after-there, before-here, before-there, after-in, before-some, before-first, before-other, after-self, after-before, before-after, after-cut, after-kept, before-cut, before-kept}
+use Rattle.vmtf.specs.Good.{Falls, Linked, GoodList, beside-row, falls-weaken, falls-frame, order-length, in-order, at-most, next-is, prev-is, few, chain, start-in}
 
 module _ {n : ℕ} {order : List ℕ} {l : Vmtf} (k : Linked n order l) (v : ℕ) (v-in : v < n) (back : v ≢ l .start) where
   abbrev P : ℕ
@@ -147,17 +145,21 @@ module _ (next : List ℕ) (small : length next ≤ NONE) where
 
 -- ---- the whole move
 
+-- stamping the list anew makes its stamps good, whatever they were
+pub rescore-good : {n : ℕ} {order : List ℕ} {l : Vmtf} → Linked n order l → length (l .ts) ≡ n → (l .search ≢ NONE → l .search < n) → GoodList n order (rescore l)
+unfolding rescore
+rescore-good {n} {order} {l} k t s = record {
+  linked = record { small = k .small; next-long = k .next-long; prev-long = k .prev-long; vars = k .vars; once = k .once; front = k .front; row = k .row };
+  ts-long = length-renumber (l .next) (length (l .next)) (l .start) (l .ts) ∙ t;
+  falls = renumber-falls (l .next) (few k) order (length (l .next)) (l .start) (l .ts) (chain k) (omega (arith, order-length k, k .next-long)) (at-most k) (λ w h. omega (arith, k .vars w h, t));
+  search-in = s;
+}
+
 -- the stamp of the front may be the timestamp itself: after it the timestamp is above every stamp again
 tick-good : {n : ℕ} {order : List ℕ} {l : Vmtf} → Linked n order l → length (l .ts) ≡ n → Falls (l .ts) (l .timestamp + 1) order → (l .search ≢ NONE → l .search < n) → GoodList n order (tick l)
-unfolding tick rescore
+unfolding tick
 tick-good {n} {order} {l} k t f s =
-    cond-elim (GoodList n order) (eqb (l .timestamp) maxStamp)
-    (λ e. record {
-      linked = record { small = k .small; next-long = k .next-long; prev-long = k .prev-long; vars = k .vars; once = k .once; front = k .front; row = k .row };
-      ts-long = length-renumber (l .next) (length (l .next)) (l .start) (l .ts) ∙ t;
-      falls = renumber-falls (l .next) (few k) order (length (l .next)) (l .start) (l .ts) (chain k) (omega (arith, order-length k, k .next-long)) (at-most k) (λ w h. omega (arith, k .vars w h, t));
-      search-in = s;
-    })
+    cond-elim (GoodList n order) (eqb (l .timestamp) maxStamp) (λ e. rescore-good k t s)
     (λ e. record {
       linked = record { small = k .small; next-long = k .next-long; prev-long = k .prev-long; vars = k .vars; once = k .once; front = k .front; row = k .row };
       ts-long = t;

@@ -1,20 +1,20 @@
 -- The group's order: where different variables have different stamps, what `sort_by_stamp` leaves is `byStamp`: `sorted-is`.
 -- Assumes nothing.
-use Prim.Native.Nat.{ℕ, zero, suc, _+_, _<_, _≤_}
+use Prim.Native.Nat.{ℕ, zero, suc, _<_, _≤_}
 use mathlib.Core.Path.{_≡_, refl, sym, ap, _∙_}
 use mathlib.Core.Logic.{_≢_, by-cases}
 use mathlib.Core.Bool.{and-false}
-use mathlib.Core.List.{List, [], _∷_, map}
+use mathlib.Core.List.{List, [], _∷_}
 use native.Mathlib.Omega.{arith}
-use native.Mathlib.Decide.{ℕ-discrete, decLt}
+use native.Mathlib.Decide.{ℕ-discrete}
 use lib.ListN.{length, getD, length-map}
-use lib.Dec.{eqb, leb}
+use lib.Dec.{leb}
 use borrow.Author.Tests.{eq-eqb, ne-eqb, leb-true, leb-false}
 use Rattle.laws.specs.Tests.{cond-elim}
-use Rattle.util.specs.Pairs.{one, times, SamePairs}
+use Rattle.util.specs.Pairs.{times}
 use Rattle.util.specs.Rising.{Rising, SortedByStamp, VarByStamp, one-result}
 use Rattle.vmtf.specs.Vmtf.{Vmtf, stampsOf, insertByStamp, byStamp, Vars}
-use Rattle.vmtf.specs.Order.{count, count-here, count-there, count-more, count-head, count-nil, at-every, every-at}
+use Rattle.vmtf.specs.Order.{count, count-here, count-there, count-nil, at-every, every-at}
 use Rattle.vmtf.specs.Good.{Falls, GoodList, falls-below, in-order}
 use Rattle.vmtf.specs.Laws.{stamp-at}
 use Rattle.vmtf.specs.Moves.{sort-count}

@@ -154,6 +154,10 @@ byStamp ts (v ∷ vs) = insertByStamp ts v (byStamp ts vs)
 unfoldable pub bumpVecOfVars : List ℕ → Vmtf → Vmtf
 bumpVecOfVars vs l = moveAll (byStamp (l .ts) vs) l
 
+-- `insert`, of a variable that becomes unassigned too: nothing changes. So going back leaves search where it is
+unfoldable pub insert : ℕ → Vmtf → Vmtf
+insert v l = l
+
 -- an open variable is unassigned
 unfoldable pub isOpen : List ℕ → ℕ → Bool
 isOpen values v = leb unassigned (getD values v 0)
@@ -173,16 +177,15 @@ unfoldable pub anyOpen : List ℕ → ℕ → Bool
 anyOpen values zero = false
 anyOpen values (suc n) = anyOpen values n || isOpen values n
 
--- `get_next`: the first open variable from search on, with search at the one after it. Where there is none but some variable is open
--- the source panics
+-- the state once v is found: search is at the one after v
+abbrev pub past : ℕ → Vmtf → VmtfState
+past v l = record { start = l .start; search = getD (l .next) v 0; timestamp = l .timestamp }
+
+-- `get_next`: the first open variable from search on. Where there is none but some variable is open the source panics
 unfoldable pub getNext : List ℕ → Vmtf → Next
 getNext values l =
     let v = firstOpen values (from (l .next) (length (l .next)) (l .search)) in
-    cond (eqb v NONE) (cond (anyOpen values (length values)) Stuck Nothing) (Chose (record {
-      start = l .start;
-      search = getD (l .next) v 0;
-      timestamp = l .timestamp;
-    }) v)
+    cond (eqb v NONE) (cond (anyOpen values (length values)) Stuck Nothing) (Chose (past v l) v)
 
 -- the check of a lent list. c may come after p in the list where the stamp before it is b
 unfoldable pub stands : Vmtf → ℕ → ℕ → ℕ → Bool

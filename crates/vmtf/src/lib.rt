@@ -1,19 +1,21 @@
 // The move-to-front list of variables, from `VMTF` in decision.rs, over lent slices: for each variable the one after it, the one before
 // it and its stamp.
+mod order;
+
 ghost use mathlib.Core.Path.{_≡_};
 ghost use mathlib.Core.Logic.{_≢_};
 ghost use mathlib.Core.List.{List};
 ghost use Prim.Native.Nat.{ℕ, _+_, _<_, _≤_};
 ghost use lib.ListN.{length, getD, replicate};
-ghost use Rattle.laws.specs.InPlace.{upTo};
 ghost use Rattle.lit.specs.Numbers.{NONE as none};
 ghost use Rattle.vmtf.specs.Vmtf as spec;
-ghost use Rattle.vmtf.specs.Vmtf.{vmtfOf, Links, Safe, Ends, Vars, Group, Ordering, Literals, Scratch, Fresh};
+ghost use Rattle.vmtf.specs.Vmtf.{vmtfOf, Links, Safe, Ends, Vars, Group, Ordering, Literals, Fresh};
 use lit::NONE;
 use lit::UNASSIGNED;
-use lit::index;
-use util::sort_by_stamp;
-use util::sort_reverse;
+use order::clear;
+use order::fill;
+use order::group_order;
+use order::lit_order;
 
 // The largest stamp.
 const MAX_STAMP: u64 = 18446744073709551615;
@@ -30,54 +32,6 @@ pub enum Next {
     Chose(VmtfState, u32),
     Nothing,
     Stuck,
-}
-
-// Sets every element to x.
-fn fill(s: &mut [u32], x: u32)
-    ensures { λ _. ⌜ now (s .exit) ≡ replicate (length (now (s .entry))) x ⌝ }
-{
-    let mut i = 0;
-    while i < s.len() {
-        s[i] = x;
-        i += 1;
-    }
-}
-
-// Sets every stamp to 0.
-fn clear(s: &mut [u64])
-    ensures { λ _. ⌜ now (s .exit) ≡ replicate (length (now (s .entry))) 0 ⌝ }
-{
-    let mut i = 0;
-    while i < s.len() {
-        s[i] = 0;
-        i += 1;
-    }
-}
-
-// Writes the variables in the order of their numbers.
-fn number(s: &mut [u32])
-    requires { ⌜ length (now s) ≤ none ⌝ }
-    ensures { λ _. ⌜ now (s .exit) ≡ upTo (length (now (s .entry))) ⌝ }
-{
-    let mut i = 0;
-    while i < s.len() {
-        s[i] = i as u32;
-        i += 1;
-    }
-}
-
-// Counts the literals of each variable, of both polarities.
-fn count_lits(codes: &[u32], counts: &mut [u32])
-    requires { ⌜ Literals (length (now counts)) (now codes) ⌝ }
-    requires { ⌜ now counts ≡ replicate (length (now counts)) 0 ⌝ }
-    ensures { λ _. ⌜ now (counts .exit) ≡ spec.countLits (now (counts .entry)) (now (codes .entry)) ⌝ }
-{
-    let mut i = 0;
-    while i < codes.len() {
-        let v = index(codes[i]) as usize;
-        counts[v] += 1;
-        i += 1;
-    }
 }
 
 // The variable at a place of the order, or NONE past its end.
@@ -125,18 +79,6 @@ fn make_linked_list(order: &[u32], next: &mut [u32], prev: &mut [u32], ts: &mut 
         search: start,
         timestamp: order.len() as u64 + 1,
     }
-}
-
-// The variables in the most literals first. The counts and the tree are scratch.
-fn lit_order(codes: &[u32], counts: &mut [u32], indexes: &mut [u32], tree: &mut [u64])
-    requires { ⌜ Literals (length (now counts)) (now codes) ⌝ }
-    requires { ⌜ Scratch (length (now counts)) (now indexes) (now tree) ⌝ }
-    ensures { λ _. ⌜ now (indexes .exit) ≡ spec.litOrder (length (now (counts .entry))) (now (codes .entry)) ⌝ }
-{
-    fill(counts, 0);
-    count_lits(codes, counts);
-    number(indexes);
-    sort_reverse(counts, indexes, tree);
 }
 
 // The list of a fresh session. The counts and the indexes are scratch.
@@ -190,12 +132,10 @@ pub fn rescore(next: &[u32], ts: &mut [u64], s: VmtfState) -> VmtfState
     requires { ⌜ Links (length (now ts)) (now next) (s .start) ⌝ }
     ensures { λ r. ⌜ ((prev : List ℕ) → vmtfOf (now (next .entry)) prev (now (ts .exit)) r ≡ spec.rescore (vmtfOf (now (next .entry)) prev (now (ts .entry)) s)) ⌝ }
 {
+    let mut scored = s;
     renumber(next, ts, s.start);
-    VmtfState {
-        start: s.start,
-        search: s.search,
-        timestamp: next.len() as u64 + 1,
-    }
+    scored.timestamp = next.len() as u64 + 1;
+    scored
 }
 
 // Takes v, which is not at the front, out of the links and puts it before the front, with the next stamp.
@@ -216,11 +156,9 @@ fn relink(next: &mut [u32], prev: &mut [u32], ts: &mut [u64], s: VmtfState, v: u
     if after != NONE {
         prev[after as usize] = before;
     }
-    VmtfState {
-        start: v,
-        search: s.search,
-        timestamp: s.timestamp,
-    }
+    let mut moved = s;
+    moved.start = v;
+    moved
 }
 
 // The next timestamp; after the largest stamp the list is stamped anew.
@@ -231,11 +169,9 @@ fn tick(next: &[u32], ts: &mut [u64], s: VmtfState) -> VmtfState
     if s.timestamp == MAX_STAMP {
         return rescore(next, ts, s);
     }
-    VmtfState {
-        start: s.start,
-        search: s.search,
-        timestamp: s.timestamp + 1,
-    }
+    let mut ticked = s;
+    ticked.timestamp += 1;
+    ticked
 }
 
 // Moves a variable to the front with a new stamp, unless it is there.
@@ -258,30 +194,6 @@ pub fn move_to_front(
     tick(next, ts, moved)
 }
 
-// Copies a group and puts each variable's stamp beside it.
-fn read_stamps(ts: &[u64], vars: &[u32], stamps: &mut [u64], order: &mut [u32])
-    requires { ⌜ Vars (length (now ts)) (now vars) ⌝ }
-    requires { ⌜ (length (now stamps) ≡ length (now vars)) × (length (now order) ≡ length (now vars)) ⌝ }
-    ensures { λ _. ⌜ (now (stamps .exit) ≡ spec.stampsOf (now (ts .entry)) (now (vars .entry))) × (now (order .exit) ≡ now (vars .entry)) ⌝ }
-{
-    let mut i = 0;
-    while i < vars.len() {
-        let v = vars[i];
-        stamps[i] = ts[v as usize];
-        order[i] = v;
-        i += 1;
-    }
-}
-
-// The variables of a group, rising by their stamps.
-fn group_order(ts: &[u64], vars: &[u32], stamps: &mut [u64], order: &mut [u32])
-    requires { ⌜ Group (now vars) (now ts) (now stamps) (now order) ⌝ }
-    ensures { λ _. ⌜ now (order .exit) ≡ spec.byStamp (now (ts .entry)) (now (vars .entry)) ⌝ }
-{
-    read_stamps(ts, vars, stamps, order);
-    sort_by_stamp(stamps, order);
-}
-
 // Moves variables to the front, one after the other.
 fn move_all(
     next: &mut [u32],
@@ -296,10 +208,10 @@ fn move_all(
         ≡ spec.moveAll (now (vars .entry)) (vmtfOf (now (next .entry)) (now (prev .entry)) (now (ts .entry)) s) ⌝ }
 {
     let mut state = s;
-    let mut i = 0;
-    while i < vars.len() {
-        state = move_to_front(next, prev, ts, state, vars[i]);
-        i += 1;
+    let mut k = 0;
+    while k < vars.len() {
+        state = move_to_front(next, prev, ts, state, vars[k]);
+        k += 1;
     }
     state
 }
@@ -374,14 +286,9 @@ pub fn get_next(next: &[u32], values: &[u8], s: VmtfState) -> Next
         }
         return Next::Nothing;
     }
-    Next::Chose(
-        VmtfState {
-            start: s.start,
-            search: next[found as usize],
-            timestamp: s.timestamp,
-        },
-        found,
-    )
+    let mut past = s;
+    past.search = next[found as usize];
+    Next::Chose(past, found)
 }
 
 // Whether curr may come next in the list: a variable with the link back to the one before it and a lower stamp.

@@ -4,32 +4,18 @@ use Rattle.vmtf.specs.Vmtf.{checkList}
 use borrow.Author.Needs.{needs}
 use Rattle.vmtf.proofs.check_list.Statement.{statement}
 use Rattle.vmtf.proofs.check_list.Tie as tie
-use Rattle.vmtf.proofs.check_list.Reads as reads
-use Rattle.vmtf.proofs.check_list.Lts as lts
-use Rattle.vmtf.proofs.check_row.Reads as check-row-reads
 
--- src/lib.rt:357:9
-check-row-requires : tie.Need-check-row-requires
-check-row-requires c κs = search needs
-
--- src/lib.rt:358:9
 returns : tie.Need-returns
 unfolding checkList
 returns c = rw (sym (c .before .check-row .ensures) ∙ not-true _ (c .if1 .taken))
 
--- src/lib.rt:361:9
 returns-2 : tie.Need-returns-2
 unfolding checkList
 returns-2 c = rw (sym (c .before .before .before .check-row .ensures) ∙ not-false _ (c .before .before .if1 .left), eq-eqb _ _ (c .if2 .taken))
 
--- src/lib.rt:363:6
-cast-result : tie.Need-cast-result
-cast-result c = search needs
-
--- src/lib.rt:353:1
 returns-3 : tie.Need-returns-3
 unfolding checkList
 returns-3 c = rw (sym (c .before .before .before .before .check-row .ensures) ∙ not-false _ (c .before .before .before .if1 .left), ne-eqb _ _ (c .before .if2 .left))
 
 pub check-list-spec : {M : Type 1} → statement M
-check-list-spec = tie.close (tie.spec check-row-requires returns returns-2 cast-result returns-3)
+check-list-spec = tie.close (tie.spec (λ c κs. search needs) returns returns-2 (λ c. search needs) returns-3)

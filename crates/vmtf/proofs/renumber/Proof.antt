@@ -9,8 +9,6 @@ use Rattle.vmtf.specs.Vmtf.{renumber, Links}
 use Rattle.vmtf.specs.Laws.{renumber-none, renumber-last, renumber-step}
 use Rattle.vmtf.proofs.renumber.Statement.{statement}
 use Rattle.vmtf.proofs.renumber.Tie as tie
-use Rattle.vmtf.proofs.renumber.Reads as reads
-use Rattle.vmtf.proofs.renumber.Lts as lts
 
 record Renumbering (next : List ℕ) (n : ℕ) (goal : List ℕ) (score curr : ℕ) (ts : List ℕ) : Type 0 where
   links : Links n next curr
@@ -24,7 +22,6 @@ Inv-loop next ts₀ start score₀ curr₀ ts score curr = Renumbering next (len
 abbrev μ-loop : tie.MeasureT-loop
 μ-loop next ts₀ start score₀ curr₀ ts score curr = score
 
--- src/lib.rt:46:5
 loop-holds : tie.Need-loop-holds Inv-loop μ-loop
 loop-holds c = record { links = c .pre; long = refl; few = omega (arith, c .pre .next-long); rest = refl }
 
@@ -32,47 +29,33 @@ loop-holds c = record { links = c .pre; long = refl; few = omega (arith, c .pre 
 here : (c : tie.In-loop Inv-loop μ-loop) → c .before .loop .curr < length (c .before .loop .ts)
 here c = let v = c .before .loop .inv in omega (arith, v .links .curr-in (c .loop-test .taken), v .long)
 
--- src/lib.rt:47:12
 cast-ts : tie.Need-cast-ts Inv-loop μ-loop
 cast-ts c = omega (arith, here c)
 
--- src/lib.rt:47:9
 mul-ts : tie.Need-mul-ts Inv-loop μ-loop
 mul-ts c = omega (arith, here c)
 
--- src/lib.rt:47:9
 slice-write-ts : tie.Need-slice-write-ts Inv-loop μ-loop
 slice-write-ts c = here c
 
--- src/lib.rt:49:13
 same-length : tie.Need-same-length Inv-loop μ-loop
 same-length c = simp length-set (c .before .before .loop .inv .long)
 
--- src/lib.rt:49:13
 returns : tie.Need-returns Inv-loop μ-loop
 returns c = sym (renumber-last _ _ _ _ (c .before .loop-test .taken) (c .if1 .taken)) ∙ c .before .before .loop .inv .rest
 
--- src/lib.rt:51:9
-sub-score : tie.Need-sub-score Inv-loop μ-loop
-sub-score c = omega arith
-
--- src/lib.rt:52:21
 cast-curr : tie.Need-cast-curr Inv-loop μ-loop
 cast-curr c = omega (arith, here (c .before))
 
--- src/lib.rt:52:16
 mul-curr : tie.Need-mul-curr Inv-loop μ-loop
 mul-curr c = omega (arith, here (c .before))
 
--- src/lib.rt:52:16
 shared-slice-read-curr : tie.Need-shared-slice-read-curr Inv-loop μ-loop
 shared-slice-read-curr c = omega (arith, here (c .before .before))
 
--- src/lib.rt:46:5
 loop-less : tie.Need-loop-less Inv-loop μ-loop
 loop-less c = omega (arith, c .before .if1 .left)
 
--- src/lib.rt:46:5
 loop-again : tie.Need-loop-again Inv-loop μ-loop
 loop-again c =
     let v = c .before .before .before .loop .inv in
@@ -88,11 +71,9 @@ loop-again c =
       rest = sym (renumber-step _ _ _ _ some (omega (arith, c .before .if1 .left))) ∙ v .rest;
     }
 
--- src/lib.rt:40:1
 same-length-2 : tie.Need-same-length-2 Inv-loop μ-loop
 same-length-2 c = c .before .loop .inv .long
 
--- src/lib.rt:40:1
 returns-2 : tie.Need-returns-2 Inv-loop μ-loop
 returns-2 c = sym (renumber-none _ _ _ _ (c .loop-test .left)) ∙ c .before .loop .inv .rest
 
@@ -108,7 +89,7 @@ renumber-spec =
     slice-write-ts
     same-length
     returns
-    sub-score
+    (λ c. search needs)
     cast-curr
     mul-curr
     shared-slice-read-curr

@@ -5,24 +5,12 @@ use Rattle.vmtf.specs.Laws.{getD-any}
 use borrow.Author.Needs.{needs}
 use Rattle.vmtf.proofs.var_at.Statement.{statement}
 use Rattle.vmtf.proofs.var_at.Tie as tie
-use Rattle.vmtf.proofs.var_at.Reads as reads
-use Rattle.vmtf.proofs.var_at.Lts as lts
 
--- src/lib.rt:85:16
-mul-result : tie.Need-mul-result
-mul-result c = search needs
-
--- src/lib.rt:85:16
-shared-slice-read-result : tie.Need-shared-slice-read-result
-shared-slice-read-result c = search needs
-
--- src/lib.rt:85:9
 returns : tie.Need-returns
 returns c = getD-any (c .before .before .args .order .now) (c .before .before .args .i) 0 NONE (c .before .if1 .taken)
 
--- src/lib.rt:81:1
 returns-2 : tie.Need-returns-2
 returns-2 c = sym (List·getD-eq-default (c .before .args .order .now) NONE (c .if1 .left))
 
 pub var-at-spec : {M : Type 1} → statement M
-var-at-spec = tie.close (tie.spec mul-result shared-slice-read-result returns returns-2)
+var-at-spec = tie.close (tie.spec (λ c. search needs) (λ c. search needs) returns returns-2)

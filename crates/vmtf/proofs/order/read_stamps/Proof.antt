@@ -1,16 +1,14 @@
 -- The loop's invariant: the first i places hold the stamps and the variables of the group, the others what they held.
-use Prim.Native.Nat.{ℕ, _+_, _≤_, _<_, _-_}
+use Prim.Native.Nat.{ℕ, _≤_, _<_, _-_}
 use mathlib.Core.Path.{_≡_, refl, sym, _∙_}
 use mathlib.Core.List.{List}
 use native.Mathlib.Omega.{arith}
 use borrow.Author.Needs.{needs}
-use lib.ListN.{length, getD, length-set, length-map}
+use lib.ListN.{length, length-set, length-map}
 use Rattle.vmtf.specs.Vmtf.{stampsOf}
 use Rattle.vmtf.specs.Laws.{copied, copied-next, copied-end, stamp-at}
-use Rattle.vmtf.proofs.read_stamps.Statement.{statement}
-use Rattle.vmtf.proofs.read_stamps.Tie as tie
-use Rattle.vmtf.proofs.read_stamps.Reads as reads
-use Rattle.vmtf.proofs.read_stamps.Lts as lts
+use Rattle.vmtf.proofs.order.read_stamps.Statement.{statement}
+use Rattle.vmtf.proofs.order.read_stamps.Tie as tie
 
 record Reading (group vars stamps₀ order₀ : List ℕ) (i : ℕ) (stamps order : List ℕ) : Type 0 where
   at : i ≤ length vars
@@ -25,85 +23,45 @@ Inv-loop ts vars stamps₀ order₀ i₀ stamps order i = Reading (stampsOf ts v
 abbrev μ-loop : tie.MeasureT-loop
 μ-loop ts vars stamps₀ order₀ i₀ stamps order i = length vars - i
 
--- src/lib.rt:268:5
 loop-holds : tie.Need-loop-holds Inv-loop μ-loop
-loop-holds c = record { at = omega arith; stamps-are = refl; order-are = refl; stamps-long = c .pre .1 .0; order-long = c .pre .1 .1 }
+loop-holds c = let s = c .before .before .before .before .pre in record { at = omega arith; stamps-are = refl; order-are = refl; stamps-long = s .1 .0; order-long = s .1 .1 }
 
--- src/lib.rt:269:17
-mul-v : tie.Need-mul-v Inv-loop μ-loop
-mul-v c = search needs
+stamp-of-requires : tie.Need-stamp-of-requires Inv-loop μ-loop
+stamp-of-requires c κs = c .before .before .before .before .before .before .before .pre .0 _ (omega arith)
 
--- src/lib.rt:269:17
-shared-slice-read-v : tie.Need-shared-slice-read-v Inv-loop μ-loop
-shared-slice-read-v c = search needs
-
--- what stands at place i of the group is a variable
-here : (c : tie.In-loop Inv-loop μ-loop) → getD (c .before .before .args .vars .now) (c .before .loop .i) 0 < length (c .before .before .args .ts .now)
-here c = c .before .before .pre .0 _ (omega arith)
-
--- src/lib.rt:270:24
-cast-stamps : tie.Need-cast-stamps Inv-loop μ-loop
-cast-stamps c = omega (arith, here (c .before))
-
--- src/lib.rt:270:21
 mul-stamps : tie.Need-mul-stamps Inv-loop μ-loop
-mul-stamps c = omega (arith, here (c .before))
+mul-stamps c = omega (arith, c .before .before .before .loop .inv .stamps-long, c .before .before .before .before .before .before .before .before .pre .1 .0)
 
--- src/lib.rt:270:21
-shared-slice-read-stamps : tie.Need-shared-slice-read-stamps Inv-loop μ-loop
-shared-slice-read-stamps c = here (c .before .before)
-
--- src/lib.rt:270:9
-mul-stamps-2 : tie.Need-mul-stamps-2 Inv-loop μ-loop
-mul-stamps-2 c = omega (arith, c .before .before .before .loop .inv .stamps-long, c .before .before .before .before .pre .1 .0)
-
--- src/lib.rt:270:9
 slice-write-stamps : tie.Need-slice-write-stamps Inv-loop μ-loop
 slice-write-stamps c = omega (arith, c .before .before .before .loop .inv .stamps-long)
 
--- src/lib.rt:271:9
-mul-order : tie.Need-mul-order Inv-loop μ-loop
-mul-order c = omega arith
-
--- src/lib.rt:271:9
 slice-write-order : tie.Need-slice-write-order Inv-loop μ-loop
 slice-write-order c = omega (arith, c .before .before .before .loop .inv .order-long)
 
--- src/lib.rt:272:9
-add-i : tie.Need-add-i Inv-loop μ-loop
-add-i c = search needs
-
--- src/lib.rt:268:5
-loop-less : tie.Need-loop-less Inv-loop μ-loop
-loop-less c = omega arith
-
--- src/lib.rt:268:5
 loop-again : tie.Need-loop-again Inv-loop μ-loop
 loop-again c =
-    let s = c .before .before .before .before in
+    let s = c .before .before .before .before .before .before .before .before in
     let i = c .before .before .before .loop .i in
     let v = c .before .before .before .loop .inv in
     let h : i < length (s .args .vars .now) = omega arith in
+    let long : length (s .args .stamps .now) ≡ length (stampsOf (s .args .ts .now) (s .args .vars .now)) = s .pre .1 .0 ∙ sym (length-map (s .args .vars .now) _) in
     record {
       at = omega arith;
-      stamps-are = rw (v .stamps-are) (copied-next (stampsOf (s .args .ts .now) (s .args .vars .now)) (s .args .stamps .now) i _ (simp length-map h) (s .pre .1 .0 ∙ sym (length-map (s .args .vars .now) _)) (stamp-at (s .args .ts .now) (s .args .vars .now) i h));
+      stamps-are = rw (v .stamps-are) (copied-next (stampsOf (s .args .ts .now) (s .args .vars .now)) (s .args .stamps .now) i _ (simp length-map h) long (c .stamp-of .ensures ∙ stamp-at (s .args .ts .now) (s .args .vars .now) i h));
       order-are = rw (v .order-are) (copied-next (s .args .vars .now) (s .args .order .now) i _ h (s .pre .1 .1) refl);
       stamps-long = simp length-set (v .stamps-long);
       order-long = simp length-set (v .order-long);
     }
 
--- src/lib.rt:262:1
 same-length : tie.Need-same-length Inv-loop μ-loop
-same-length c = c .before .loop .inv .stamps-long ∙ sym (c .before .before .pre .1 .0)
+same-length c = c .before .loop .inv .stamps-long ∙ sym (c .before .before .before .before .before .before .pre .1 .0)
 
--- src/lib.rt:262:1
 same-length-2 : tie.Need-same-length-2 Inv-loop μ-loop
-same-length-2 c = c .before .loop .inv .order-long ∙ sym (c .before .before .pre .1 .1)
+same-length-2 c = c .before .loop .inv .order-long ∙ sym (c .before .before .before .before .before .before .pre .1 .1)
 
--- src/lib.rt:262:1
 returns : tie.Need-returns Inv-loop μ-loop
 returns c =
-    let s = c .before .before in
+    let s = c .before .before .before .before .before .before in
     let i = c .before .loop .i in
     let v = c .before .loop .inv in
     let h : length (s .args .vars .now) ≤ i = omega arith in (
@@ -118,17 +76,15 @@ read-stamps-spec =
     Inv-loop
     μ-loop
     loop-holds
-    mul-v
-    shared-slice-read-v
-    cast-stamps
+    (λ c. search needs)
+    (λ c. search needs)
+    stamp-of-requires
     mul-stamps
-    shared-slice-read-stamps
-    mul-stamps-2
     slice-write-stamps
-    mul-order
+    (λ c. search needs)
     slice-write-order
-    add-i
-    loop-less
+    (λ c. search needs)
+    (λ c. search needs)
     loop-again
     same-length
     same-length-2

@@ -8,11 +8,8 @@ use lib.ListN.{length, getD, drop, replicate, length-set}
 use Rattle.laws.specs.Lists.{set-cases}
 use Rattle.vmtf.specs.Vmtf.{countLits}
 use Rattle.vmtf.specs.Laws.{count-step, count-end}
-use Rattle.vmtf.proofs.count_lits.Statement.{statement}
-use Rattle.vmtf.proofs.count_lits.Tie as tie
-use Rattle.vmtf.proofs.count_lits.Reads as reads
-use Rattle.vmtf.proofs.count_lits.Lts as lts
-use Rattle.lit.proofs.index.Reads as index-reads
+use Rattle.vmtf.proofs.order.count_lits.Statement.{statement}
+use Rattle.vmtf.proofs.order.count_lits.Tie as tie
 
 record Counting (codes : List ℕ) (n : ℕ) (goal : List ℕ) (i : ℕ) (counts : List ℕ) : Type 0 where
   at : i ≤ length codes
@@ -31,55 +28,28 @@ Inv-loop codes counts₀ i₀ counts i = Counting codes (length counts₀) (coun
 abbrev μ-loop : tie.MeasureT-loop
 μ-loop codes counts₀ i₀ counts i = length codes - i
 
--- src/lib.rt:73:5
 loop-holds : tie.Need-loop-holds Inv-loop μ-loop
 loop-holds c = let l = c .before .before .args .counts .now in record { at = omega arith; long = refl; below = λ v. rw (c .before .before .pre .1) (zeros (length l) v); rest = refl }
-
--- src/lib.rt:74:23
-mul-index : tie.Need-mul-index Inv-loop μ-loop
-mul-index c = search needs
-
--- src/lib.rt:74:23
-shared-slice-read-index : tie.Need-shared-slice-read-index Inv-loop μ-loop
-shared-slice-read-index c = search needs
-
--- src/lib.rt:74:17
-index-requires : tie.Need-index-requires Inv-loop μ-loop
-index-requires c κs = search needs
 
 -- the literal's variable has a count
 here : (c : tie.After-index Inv-loop μ-loop) → c .index .result < length (c .before .before .before .loop .counts)
 here c = omega (arith, c .index .ensures, c .before .before .before .before .before .before .pre .0 .vars (c .before .before .before .loop .i) (omega arith), c .before .before .before .loop .inv .long)
 
--- src/lib.rt:74:17
 cast-v : tie.Need-cast-v Inv-loop μ-loop
 cast-v c = omega (arith, here c)
 
--- src/lib.rt:75:9
 mul-counts : tie.Need-mul-counts Inv-loop μ-loop
 mul-counts c = omega (arith, here c)
 
--- src/lib.rt:75:9
 slice-read-counts : tie.Need-slice-read-counts Inv-loop μ-loop
 slice-read-counts c = here (c .before)
 
--- src/lib.rt:75:9
 add-counts : tie.Need-add-counts Inv-loop μ-loop
 add-counts c = omega (arith, c .before .before .before .before .loop .inv .below (c .before .index .result), c .before .before .before .before .before .before .before .pre .0 .few)
 
--- src/lib.rt:75:9
 slice-write-counts : tie.Need-slice-write-counts Inv-loop μ-loop
 slice-write-counts c = here (c .before)
 
--- src/lib.rt:76:9
-add-i : tie.Need-add-i Inv-loop μ-loop
-add-i c = search needs
-
--- src/lib.rt:73:5
-loop-less : tie.Need-loop-less Inv-loop μ-loop
-loop-less c = omega arith
-
--- src/lib.rt:73:5
 loop-again : tie.Need-loop-again Inv-loop μ-loop
 loop-again c =
     let v = c .before .before .before .before .loop .inv in
@@ -92,11 +62,9 @@ loop-again c =
       rest = sym (count-step _ _ _ _ (c .before .index .ensures) h) ∙ v .rest;
     }
 
--- src/lib.rt:67:1
 same-length : tie.Need-same-length Inv-loop μ-loop
 same-length c = c .before .loop .inv .long
 
--- src/lib.rt:67:1
 returns : tie.Need-returns Inv-loop μ-loop
 returns c = let h : length (c .before .before .before .before .args .codes .now) ≤ c .before .loop .i = omega arith in sym (count-end _ _ _ h) ∙ c .before .loop .inv .rest
 
@@ -107,16 +75,16 @@ count-lits-spec =
     Inv-loop
     μ-loop
     loop-holds
-    mul-index
-    shared-slice-read-index
-    index-requires
+    (λ c. search needs)
+    (λ c. search needs)
+    (λ c κs. search needs)
     cast-v
     mul-counts
     slice-read-counts
     add-counts
     slice-write-counts
-    add-i
-    loop-less
+    (λ c. search needs)
+    (λ c. search needs)
     loop-again
     same-length
     returns)
