@@ -1,3 +1,4 @@
 -- Laws of tests and of lists, for every crate to cite.
 pub mod Tests
 pub mod Lists
+pub mod InPlace
