@@ -9,13 +9,15 @@ use Rattle.lit.specs.Numbers.{unassigned}
 use Rattle.lit.specs.Lits.{index}
 use Rattle.activity.specs.declared.Step.{Step}
 use Rattle.activity.specs.Doubles.{zeroActivity, limit}
-use Rattle.activity.specs.Step as step
+use Rattle.activity.specs.Step.{freshStep, scaleAll, scaled, decayed, withDecay}
 use Rattle.heap.specs.Heap.{comesFirst, Places, placesOf, inHeap, decrease, removeMin, build}
-use Rattle.heap.specs.Heap as heap
+use Rattle.heap.specs.Heap as moves
 use Rattle.heap.specs.declared.VsidsState.{VsidsState}
+use Rattle.heap.specs.declared.Next.{Next}
+use Rattle.heap.specs.declared.Next.the-variants.{Chose, Nothing}
 
 pub record Vsids : Type 0 where
-  -- for each variable its activity, the members, for each variable its position and its switch
+  -- for each variable its activity, the members, and for each variable its position and its switch
   pub activity : List Float
   pub heap : List ℕ
   pub indices : List ℕ
@@ -23,3 +25,103 @@ pub record Vsids : Type 0 where
   -- how many members, and `var_inc` with `var_decay`
   pub len : ℕ
   pub step : Step
+
+-- the lent slices and the state by value
+abbrev pub vsidsOf : List Float → List ℕ → List ℕ → List Bool → VsidsState → Vsids
+vsidsOf a h p d s = record { activity = a; heap = h; indices = p; decision = d; len = s .len; step = s .step }
+
+-- the members and positions; the same chooser with others, k of them in use; the order of its members
+abbrev pub places : Vsids → Places
+places h = placesOf (h .heap) (h .indices)
+
+abbrev pub withPlaces : ℕ → Places → Vsids → Vsids
+withPlaces k s h = record { activity = h .activity; heap = s .heap; indices = s .indices; decision = h .decision; len = k; step = h .step }
+
+abbrev pub before : Vsids → ℕ → ℕ → Bool
+before h = comesFirst (h .activity)
+
+-- `new`: activities 0, all members, all on
+unfoldable pub new : ℕ → Vsids
+new n = record {
+  activity = replicate n zeroActivity;
+  heap = build (comesFirst (replicate n zeroActivity)) n .heap;
+  indices = build (comesFirst (replicate n zeroActivity)) n .indices;
+  decision = replicate n true;
+  len = n;
+  step = freshStep;
+}
+
+-- switched on and unassigned
+unfoldable pub isOpen : List ℕ → List Bool → ℕ → Bool
+isOpen values decision v = getD decision v false && leb unassigned (getD values v 0)
+
+-- `get_next`: members come off the top until one is open
+unfoldable pub removeFirst : Vsids → Vsids
+removeFirst h = withPlaces (h .len - 1) (removeMin (before h) (h .len) (places h)) h
+
+pub data Found : Type 0 where
+  chose : ℕ → Vsids → Found
+  nothing : Vsids → Found
+
+unfoldable pub getNextOf : ℕ → List ℕ → Vsids → Found
+getNextOf zero values h = nothing h
+getNextOf (suc k) values h =
+    let v = getD (h .heap) 0 0 in
+    cond (isOpen values (h .decision) v) (chose v (removeFirst h)) (getNextOf k values (removeFirst h))
+
+unfoldable pub getNext : List ℕ → Vsids → Found
+getNext values h = getNextOf (h .len) values h
+
+-- the code's answer with the memory it leaves
+abbrev pub foundOf : List Float → List ℕ → List ℕ → List Bool → Next → Found
+foundOf a h p d (Chose v s) = chose v (vsidsOf a h p d s)
+foundOf a h p d (Nothing s) = nothing (vsidsOf a h p d s)
+
+-- `bump_variable`: the step is added with one rounding; strictly above 1e100 all is scaled once; then a member moves up
+unfoldable pub addStep : ℕ → Vsids → Vsids
+addStep v h = record {
+  activity = set (h .activity) v (add binary64 (getD (h .activity) v nan) (h .step .inc));
+  heap = h .heap;
+  indices = h .indices;
+  decision = h .decision;
+  len = h .len;
+  step = h .step;
+}
+
+unfoldable pub scaledAll : Vsids → Vsids
+scaledAll h = record { activity = scaleAll (h .activity); heap = h .heap; indices = h .indices; decision = h .decision; len = h .len; step = scaled (h .step) }
+
+unfoldable pub rescale : ℕ → Vsids → Vsids
+rescale v h = cond (lt limit (getD (h .activity) v nan)) (scaledAll h) h
+
+unfoldable pub moveUp : ℕ → Vsids → Vsids
+moveUp v h = cond (inHeap (h .indices) v) (withPlaces (h .len) (decrease (before h) v (places h)) h) h
+
+unfoldable pub bumpVariable : ℕ → Vsids → Vsids
+bumpVariable v h = moveUp v (rescale v (addStep v h))
+
+-- `bump_reason_literals`: the variable of every literal of the reason clause but the first
+unfoldable pub bumpAll : List ℕ → Vsids → Vsids
+bumpAll [] h = h
+bumpAll (code ∷ codes) h = bumpAll codes (bumpVariable (index code) h)
+
+abbrev pub bumpReasonLiterals : List ℕ → Vsids → Vsids
+bumpReasonLiterals clause h = bumpAll (drop 1 clause) h
+
+-- `insert`: only what is no member and is switched on
+unfoldable pub insert : ℕ → Vsids → Vsids
+insert v h = cond (not (inHeap (h .indices) v) && getD (h .decision) v false) (withPlaces (h .len + 1) (moves.insert (before h) (h .len) v (places h)) h) h
+
+-- `turn_off_decision_for_idx`
+unfoldable pub turnOff : ℕ → Vsids → Vsids
+turnOff v h = record { activity = h .activity; heap = h .heap; indices = h .indices; decision = set (h .decision) v false; len = h .len; step = h .step }
+
+-- `decay_var_inc` and `set_var_decay`
+abbrev pub withStep : Step → Vsids → Vsids
+withStep s h = record { activity = h .activity; heap = h .heap; indices = h .indices; decision = h .decision; len = h .len; step = s }
+
+abbrev pub decayVarInc : Vsids → Vsids
+decayVarInc h = withStep (decayed (h .step)) h
+
+abbrev pub setVarDecay : Float → Vsids → Vsids
+setVarDecay d h = withStep (withDecay (h .step) d) h
