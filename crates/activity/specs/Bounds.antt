@@ -8,7 +8,7 @@ use native.Mathlib.Omega.{arith}
 use borrow.Author.Tests.{not-false, lt-ltb, ne-eqb}
 use lib.IntN.{ℤ}
 use lib.Dec.{T, eqb}
-use lib.Ieee.{Float, nan, inf, fin, ofBits, binary64, add, mul, div, le, lt, up, down, isNan}
+use lib.Ieee.{Float, nan, inf, fin, ofBits, binary64, add, mul, div, le, lt, up, down, isNan, fits}
 use lib.Ieee.Bits.{is-true}
 use lib.Ieee.Fits.{down-pos}
 use lib.Ieee.Positive.{positive}
@@ -203,3 +203,7 @@ bad-decay-is (fin true m e) =
     let z : 0 < 1 * down e = omega (arith, down-pos e) in
     rw (lt-ltb 0 (m * up e * 2 + 1 * down e) (omega arith), ne-eqb (1 * down e) 0 (omega arith), and-false)
 bad-decay-is (fin false m e) = bad-upright (finite (number m e)) refl
+
+pub zero-fits : T (fits binary64 zeroActivity)
+unfolding ofBits fits
+zero-fits = tt

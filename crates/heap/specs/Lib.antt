@@ -7,3 +7,6 @@ pub mod Walks
 pub mod Exchange
 pub mod Inverses
 pub mod Orders
+pub mod Scoring
+pub mod Kept
+pub mod Choice

@@ -30,12 +30,15 @@ pub record Vsids : Type 0 where
 abbrev pub vsidsOf : List Float → List ℕ → List ℕ → List Bool → VsidsState → Vsids
 vsidsOf a h p d s = record { activity = a; heap = h; indices = p; decision = d; len = s .len; step = s .step }
 
--- the members and positions; the same chooser with others, k of them in use; the order of its members
+-- the members and positions; the same chooser with others, k of them in use; with other activities and step; the order of its members
 abbrev pub places : Vsids → Places
 places h = placesOf (h .heap) (h .indices)
 
 abbrev pub withPlaces : ℕ → Places → Vsids → Vsids
 withPlaces k s h = record { activity = h .activity; heap = s .heap; indices = s .indices; decision = h .decision; len = k; step = h .step }
+
+abbrev pub withScores : List Float → Step → Vsids → Vsids
+withScores a s h = record { activity = a; heap = h .heap; indices = h .indices; decision = h .decision; len = h .len; step = s }
 
 abbrev pub before : Vsids → ℕ → ℕ → Bool
 before h = comesFirst (h .activity)
@@ -79,17 +82,10 @@ foundOf a h p d (Nothing s) = nothing (vsidsOf a h p d s)
 
 -- `bump_variable`: the step is added with one rounding; strictly above 1e100 all is scaled once; then a member moves up
 unfoldable pub addStep : ℕ → Vsids → Vsids
-addStep v h = record {
-  activity = set (h .activity) v (add binary64 (getD (h .activity) v nan) (h .step .inc));
-  heap = h .heap;
-  indices = h .indices;
-  decision = h .decision;
-  len = h .len;
-  step = h .step;
-}
+addStep v h = withScores (set (h .activity) v (add binary64 (getD (h .activity) v nan) (h .step .inc))) (h .step) h
 
 unfoldable pub scaledAll : Vsids → Vsids
-scaledAll h = record { activity = scaleAll (h .activity); heap = h .heap; indices = h .indices; decision = h .decision; len = h .len; step = scaled (h .step) }
+scaledAll h = withScores (scaleAll (h .activity)) (scaled (h .step)) h
 
 unfoldable pub rescale : ℕ → Vsids → Vsids
 rescale v h = cond (lt limit (getD (h .activity) v nan)) (scaledAll h) h
@@ -117,11 +113,8 @@ unfoldable pub turnOff : ℕ → Vsids → Vsids
 turnOff v h = record { activity = h .activity; heap = h .heap; indices = h .indices; decision = set (h .decision) v false; len = h .len; step = h .step }
 
 -- `decay_var_inc` and `set_var_decay`
-abbrev pub withStep : Step → Vsids → Vsids
-withStep s h = record { activity = h .activity; heap = h .heap; indices = h .indices; decision = h .decision; len = h .len; step = s }
-
 abbrev pub decayVarInc : Vsids → Vsids
-decayVarInc h = withStep (decayed (h .step)) h
+decayVarInc h = withScores (h .activity) (decayed (h .step)) h
 
 abbrev pub setVarDecay : Float → Vsids → Vsids
-setVarDecay d h = withStep (withDecay (h .step) d) h
+setVarDecay d h = withScores (h .activity) (withDecay (h .step) d) h

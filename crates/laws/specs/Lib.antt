@@ -2,3 +2,5 @@
 pub mod Tests
 pub mod Lists
 pub mod InPlace
+pub mod Counts
+pub mod Stores
