@@ -10,3 +10,4 @@ pub mod Orders
 pub mod Scoring
 pub mod Kept
 pub mod Choice
+pub mod Check

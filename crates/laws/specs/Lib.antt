@@ -4,3 +4,4 @@ pub mod Lists
 pub mod InPlace
 pub mod Counts
 pub mod Stores
+pub mod Every
