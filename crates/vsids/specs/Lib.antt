@@ -5,3 +5,4 @@ pub mod Scoring
 pub mod Kept
 pub mod Choice
 pub mod Check
+pub mod Cases
