@@ -1,7 +1,7 @@
 -- Cases A, F, G and J of document 01 for the heap, computed. H and I are computed where the step is.
 use mathlib.Core.Path.{_≡_, refl}
 use mathlib.Core.Bool.{Bool, true, false}
-use mathlib.Core.List.{List, [], _∷_}
+use mathlib.Core.List.{[], _∷_}
 use Prim.Native.Nat.{ℕ}
 use lib.Ieee.{Float, ofBits, add, lt}
 use Rattle.laws.specs.InPlace.{upTo}

@@ -1,25 +1,20 @@
 -- What `get_next` answers: an open variable before which no open variable comes, and none exactly when nothing is open. Assumes nothing.
 use mathlib.Core.Path.{_≡_, refl, sym, ap, _∙_}
-use mathlib.Core.Bool.{Bool, true, false, cond, true≢false}
+use mathlib.Core.Bool.{Bool, true, false, true≢false}
 use mathlib.Core.List.{List}
-use Prim.Native.Nat.{ℕ, zero, suc, _-_, _<_, _≤_}
-use native.Mathlib.Decide.{ℕ-discrete}
+use Prim.Native.Nat.{ℕ, zero, suc, _<_}
 use native.Mathlib.Omega.{arith}
-use lib.Dec.{ltb}
-use lib.ListN.{length, getD, set}
-use lib.Seq.{getD-set-other}
-use borrow.Author.Tests.{ltb-true, lt-ltb}
+use lib.Dec.{T}
+use lib.Ieee.{nan, le}
+use lib.ListN.{getD, set}
+use Rattle.heap.specs.Heap.{parent}
 use Rattle.laws.specs.Tests.{cond-elim, not-true}
-use Rattle.laws.specs.Stores.{set-in}
-use Rattle.lit.specs.Numbers.{NONE, maxVars}
-use Rattle.heap.specs.Heap.{Places, placesOf, inHeap, dropFirst, removeMin}
-use Rattle.vsids.specs.Vsids.{Vsids, places, withPlaces, before, isOpen, removeFirst, Found, chose, nothing, getNextOf, getNext}
-use Rattle.heap.specs.Order.{Inverse, Ordered}
-use Rattle.vsids.specs.Good.{Scores, GoodHeap, Chosen, Emptied, Right}
+use Rattle.vsids.specs.Vsids.{Vsids, places, before, isOpen, removeFirst, Found, chose, nothing, getNextOf, getNext}
+use Rattle.vsids.specs.Good.{GoodHeap, Chosen, Emptied, Right}
 use Rattle.heap.specs.Inverses.{remove-inverse}
 use Rattle.heap.specs.Orders.{remove-order, first}
 use Rattle.heap.specs.Members.{member, remove-member}
-use Rattle.vsids.specs.Scoring.{comes-order}
+use Rattle.vsids.specs.Scoring.{comes-order, no-higher}
 use Rattle.vsids.specs.Kept.{closed}
 
 module _ {n : ℕ} {values : List ℕ} (h : Vsids) (g : GoodHeap n values h) (z : 0 < h .len) where
@@ -85,6 +80,15 @@ chose-right h g e = rw e at (get-next-right h g)
 
 pub nothing-right : {n : ℕ} {values : List ℕ} {h′ : Vsids} (h : Vsids) → GoodHeap n values h → getNext values h ≡ nothing h′ → Emptied n values h h′
 nothing-right h g e = rw e at (get-next-right h g)
+
+-- in activities: the chosen variable's is no lower than any other open variable's, and a parent's no lower than its member's
+pub chosen-highest : {n : ℕ} {values : List ℕ} {v : ℕ} {h h′ : Vsids} → GoodHeap n values h → Chosen n values h v h′
+    → (u : ℕ) → u < n → isOpen values (h .decision) u ≡ true → T (le (getD (h .activity) u nan) (getD (h .activity) v nan))
+chosen-highest {v = v} g c u l e = no-higher (g .scores) u v l (c .var) (c .highest u l e)
+
+pub parent-no-lower : {n : ℕ} {values : List ℕ} {h : Vsids} → GoodHeap n values h → (i : ℕ) → 0 < i → i < h .len
+    → T (le (getD (h .activity) (getD (h .heap) i 0) nan) (getD (h .activity) (getD (h .heap) (parent i) 0) nan))
+parent-no-lower g i z l = let m = g .inverse .room .members in no-higher (g .scores) _ _ (m i l) (m (parent i) (omega arith)) (g .ordered i z l)
 
 -- the answer is none exactly when nothing is open
 abbrev pub saysNone : Found → Bool

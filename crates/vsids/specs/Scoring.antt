@@ -1,23 +1,23 @@
 -- Activities and the comparison by them: it has the laws of `Order`, a bump keeps the bounds, and only the bumped variable can come further ahead.
 -- Assumes nothing.
-use mathlib.Core.Path.{_≡_, refl, sym, _∙_, subst}
-use mathlib.Core.Bool.{Bool, true, false, cond}
+use mathlib.Core.Path.{_≡_, refl, _∙_, subst}
+use mathlib.Core.Bool.{false}
 use mathlib.Core.List.{List}
 use Prim.Native.Nat.{ℕ, _<_}
 use native.Mathlib.Omega.{arith}
 use lib.Dec.{T}
-use lib.Ieee.{Float, nan, binary64, fits, add, mul, lt}
+use lib.Ieee.{Float, nan, binary64, fits, add, mul, lt, le}
 use lib.Ieee.Fits.{add-fits, mul-fits}
-use lib.ListN.{length, getD, set, replicate, length-set, length-map, length-replicate, getD-replicate, List·getD-map}
+use lib.ListN.{length, getD, replicate, length-set, length-map, length-replicate, getD-replicate, List·getD-map}
 use lib.Seq.{getD-set-same, getD-set-other}
 use Rattle.laws.specs.Tests.{cond-elim}
 use Rattle.laws.specs.Lists.{set-cases}
 use Rattle.activity.specs.declared.Step.{Step}
 use Rattle.activity.specs.Doubles.{zeroActivity, limit, maxActivity, maxInc}
-use Rattle.activity.specs.Step.{freshStep, scale, scaleAll, scaled}
+use Rattle.activity.specs.Step.{freshStep, scale, scaleAll}
 use Rattle.activity.specs.Upright.{Upright, lt-asym, lt-pass, lt-false, lt-of-le}
-use Rattle.activity.specs.Rounding.{add-upright, add-grows}
-use Rattle.activity.specs.Bounds.{Within, GoodStep, zero-within, zero-fits, fresh-good, sum-within, scale-mono, scale-upright, scale-within, below-limit, activity-inc, scaled-good}
+use Rattle.activity.specs.Rounding.{add-grows}
+use Rattle.activity.specs.Bounds.{Within, zero-within, zero-fits, fresh-good, sum-within, scale-mono, scale-upright, scale-within, below-limit, activity-inc, scaled-good}
 use Rattle.heap.specs.Heap.{comesFirst}
 use Rattle.heap.specs.Members.{Raises}
 use Rattle.vsids.specs.Vsids.{Vsids, withScores, before, addStep, scaledAll, rescale}
@@ -34,6 +34,11 @@ module _ {n : ℕ} {a : List Float} {s : Step} (c : Scores n a s) where
     asym = λ x y l m e. lt-asym (sound y m) (sound x l) e;
     pass = λ x y z l m k e f. lt-pass (sound z k) (sound y m) (sound x l) f e;
   }
+
+  -- what does not come before another has no higher activity
+  pub no-higher : (x y : ℕ) → x < n → y < n → comesFirst a x y ≡ false → T (le (getD a x nan) (getD a y nan))
+  unfolding comesFirst
+  no-higher x y l m e = lt-false (sound y m) (sound x l) e
 
 nan-scaled : scale nan ≡ nan
 unfolding mul

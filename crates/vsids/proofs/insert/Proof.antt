@@ -1,6 +1,5 @@
 -- `insert` meets its contract: a member or a variable that is off changes nothing, and `heap::insert` does the rest.
-use mathlib.Core.Path.{refl, sym, ap, _∙_}
-use native.Mathlib.Omega.{arith}
+use mathlib.Core.Path.{sym, _∙_}
 use borrow.Author.Needs.{needs}
 use borrow.Author.Tests.{not-true, not-false}
 use Rattle.vsids.proofs.Loops.{inserted, member-stays, off-stays}
