@@ -27,6 +27,14 @@ module _ (p : ℕ → Bool) where
   every-all zero f = refl
   every-all (suc n) f = and-both (every-all n (λ i h. f i (omega arith))) (f n (omega arith))
 
+  -- a turn of a loop over it, and the turn that ends the loop
+  pub every-next : {i : ℕ} → every p i ≡ true → p i ≡ true → every p (i + 1) ≡ true
+  unfolding every
+  every-next {i} e q = rw (add-one i) (and-both e q)
+
+  pub every-not : (n i : ℕ) → i < n → p i ≡ false → every p n ≡ false
+  every-not n i h e = not-true (every p n) (λ all. (let z : _≡_ {A = ℕ} 0 1 = cc (every-at n i all h) in omega arith))
+
 -- the invariant of a loop over the places below n that stops at the first failure: those below i pass
 pub record Passed (p : ℕ → Bool) (n i : ℕ) : Type 0 where
   pub within : i ≤ n
@@ -38,11 +46,10 @@ module _ {p : ℕ → Bool} {n : ℕ} where
   passed-none = record { within = omega arith; passed = refl }
 
   pub passed-more : {i : ℕ} → Passed p n i → i < n → p i ≡ true → Passed p n (i + 1)
-  unfolding every
-  passed-more {i} h b e = record { within = omega arith; passed = rw (add-one i) (and-both (h .passed) e) }
+  passed-more {i} h b e = record { within = omega arith; passed = every-next p (h .passed) e }
 
   pub passed-all : {i : ℕ} → Passed p n i → n ≤ i → every p n ≡ true
   passed-all {i} h b = let e : i ≡ n = omega arith in rw e at (h .passed)
 
   pub passed-fails : {i : ℕ} → Passed p n i → i < n → p i ≡ false → every p n ≡ false
-  passed-fails {i} h b e = not-true (every p n) (λ all. (let z : _≡_ {A = ℕ} 0 1 = cc (every-at p n i all b) in omega arith))
+  passed-fails {i} h b e = every-not p n i b e

@@ -26,8 +26,8 @@ module _ {A : Type 0} where
   pub filled-next : (v : A) (l : List A) (i : ℕ) → i < length l → set (filled v l i) i v ≡ filled v l (i + 1)
   filled-next v l i h = store-next (replicate i v) l i v (length-replicate i v) h ∙ rw (add-one, ← replicate-snoc i v)
 
-  pub filled-end : (v : A) (l : List A) → filled v l (length l) ≡ replicate (length l) v
-  filled-end v l = rw drop-length (append-nil (replicate (length l) v))
+  pub filled-end : (v : A) (l : List A) (n : ℕ) → length l ≡ n → filled v l n ≡ replicate n v
+  filled-end v l n e = rw (← e, drop-length) (append-nil (replicate (length l) v))
 
   -- a function of what was there
   module _ (f : A → A) where
@@ -76,5 +76,5 @@ pub counted-next : (l : List ℕ) (i : ℕ) → i < length l → set (counted l 
 unfolding upTo
 counted-next l i h = store-next (upTo i) l i i (length-upTo i) h ∙ rw add-one
 
-pub counted-end : (l : List ℕ) → counted l (length l) ≡ upTo (length l)
-counted-end l = rw drop-length (append-nil (upTo (length l)))
+pub counted-end : (l : List ℕ) (n : ℕ) → length l ≡ n → counted l n ≡ upTo n
+counted-end l n e = rw (← e, drop-length) (append-nil (upTo (length l)))

@@ -8,3 +8,5 @@ pub mod Pigeonhole
 pub mod Prefix
 pub mod InPlace
 pub mod Parts
+pub mod Counts
+pub mod Stores

@@ -23,7 +23,7 @@ loop-again c =
     (omega arith, simp length-set (omega arith), rw (c .before .loop .inv .2) (filled-next 0 (c .before .before .args .s .now) (c .before .loop .i) h))
 
 returns : tie.Need-returns Inv-loop μ-loop
-returns c = let e : c .before .loop .i ≡ length (c .before .before .args .s .now) = omega arith in c .before .loop .inv .2 ∙ rw e (filled-end 0 (c .before .before .args .s .now))
+returns c = let e : c .before .loop .i ≡ length (c .before .before .args .s .now) = omega arith in c .before .loop .inv .2 ∙ rw e (filled-end 0 (c .before .before .args .s .now) _ refl)
 
 pub clear-spec : {M : Type 1} → statement M
 clear-spec =

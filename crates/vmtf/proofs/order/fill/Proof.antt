@@ -23,7 +23,7 @@ loop-again c =
     (omega arith, simp length-set (omega arith), rw (c .before .loop .inv .2) (filled-next (c .before .before .args .x) (c .before .before .args .s .now) (c .before .loop .i) h))
 
 returns : tie.Need-returns Inv-loop μ-loop
-returns c = let e : c .before .loop .i ≡ length (c .before .before .args .s .now) = omega arith in c .before .loop .inv .2 ∙ rw e (filled-end (c .before .before .args .x) (c .before .before .args .s .now))
+returns c = let e : c .before .loop .i ≡ length (c .before .before .args .s .now) = omega arith in c .before .loop .inv .2 ∙ rw e (filled-end (c .before .before .args .x) (c .before .before .args .s .now) _ refl)
 
 pub fill-spec : {M : Type 1} → statement M
 fill-spec =

@@ -1,0 +1,319 @@
+// The heap chooser: JigSAT's `VSIDS` over lent slices, with the count of members and the step by value.
+use activity::LIMIT;
+use activity::MAX_ACTIVITY;
+use activity::Step;
+use activity::ZERO_ACTIVITY;
+use lit::NONE;
+use lit::UNASSIGNED;
+ghost use mathlib.Core.Path.{_≡_};
+ghost use mathlib.Core.List.{List};
+ghost use mathlib.Core.Bool.{Bool, false};
+ghost use Prim.Native.Nat.{ℕ, _<_, _≤_};
+ghost use lib.Ieee.{Float};
+ghost use lib.ListN.{length, getD};
+ghost use Rattle.laws.specs.Every.{every};
+ghost use Rattle.lit.specs.Numbers.{maxVars};
+ghost use Rattle.lit.specs.Lits.{index};
+ghost use Rattle.heap.specs.Heap.{placesOf, comesFirst, inHeap};
+ghost use Rattle.heap.specs.Room.{Room, Placed};
+ghost use Rattle.vsids.specs.Vsids as spec;
+ghost use Rattle.vsids.specs.Vsids.{vsidsOf, foundOf};
+ghost use Rattle.vsids.specs.Check as check;
+ghost use Rattle.vsids.specs.Check.{SameLengths};
+ghost use Rattle.vsids.specs.declared.VsidsState.{VsidsState};
+
+// How many members the heap has, and the step.
+pub struct VsidsState {
+    pub len: u32,
+    pub step: Step,
+}
+
+// The variable chosen, or none, with the state left.
+pub enum Next {
+    Chose(u32, VsidsState),
+    Nothing(VsidsState),
+}
+
+// A fresh chooser: activities 0, all variables members and switched on, the fresh step.
+pub fn new(
+    activity: &mut [f64],
+    heap: &mut [u32],
+    indices: &mut [u32],
+    decision: &mut [bool],
+) -> VsidsState
+    requires { ⌜ length (now activity) ≤ maxVars ⌝ }
+    requires { ⌜ (length (now heap) ≡ length (now activity)) × ((length (now indices) ≡ length (now activity)) × (length (now decision) ≡ length (now activity))) ⌝ }
+    ensures { λ r. ⌜ vsidsOf (now (activity .exit)) (now (heap .exit)) (now (indices .exit)) (now (decision .exit)) r ≡ spec.new (length (now (activity .entry))) ⌝ }
+{
+    let n = activity.len();
+    let mut i = 0;
+    while i < n {
+        activity[i] = ZERO_ACTIVITY;
+        decision[i] = true;
+        i += 1;
+    }
+    heap::build(activity, heap, indices);
+    VsidsState {
+        len: n as u32,
+        step: Step::fresh(),
+    }
+}
+
+// Whether a variable is switched on and unassigned.
+pub fn is_open(values: &[u8], decision: &[bool], v: u32) -> bool
+    requires { ⌜ (v < length (now values)) × (v < length (now decision)) ⌝ }
+    ensures { λ r. ⌜ r ≡ spec.isOpen (now (values .entry)) (now (decision .entry)) v ⌝ }
+{
+    decision[v as usize] && values[v as usize] >= UNASSIGNED
+}
+
+// Takes members off the top, drops those that are off or assigned, and answers the first other one.
+pub fn get_next(
+    values: &[u8],
+    activity: &[f64],
+    heap: &mut [u32],
+    indices: &mut [u32],
+    decision: &[bool],
+    s: VsidsState,
+) -> Next
+    requires { ⌜ Room (length (now activity)) (s .len) (placesOf (now heap) (now indices)) ⌝ }
+    requires { ⌜ (length (now values) ≡ length (now activity)) × (length (now decision) ≡ length (now activity)) ⌝ }
+    ensures { λ r. ⌜ foundOf (now (activity .entry)) (now (heap .exit)) (now (indices .exit)) (now (decision .entry)) r ≡ spec.getNext (now (values .entry)) (vsidsOf (now (activity .entry)) (now (heap .entry)) (now (indices .entry)) (now (decision .entry)) s) ⌝ }
+{
+    let step = s.step;
+    let mut len = s.len;
+    while len > 0 {
+        let v = heap::remove_min(activity, heap, indices, len);
+        len -= 1;
+        if is_open(values, decision, v) {
+            return Next::Chose(v, VsidsState { len, step });
+        }
+    }
+    Next::Nothing(VsidsState { len, step })
+}
+
+// Adds the step to the activity of var. Strictly above 1e100 every activity and the step are scaled.
+fn add_step(activity: &mut [f64], s: VsidsState, var: u32) -> VsidsState
+    requires { ⌜ var < length (now activity) ⌝ }
+    ensures { λ r. ⌜ ((h p : List ℕ) (d : List Bool) → vsidsOf (now (activity .exit)) h p d r ≡ spec.rescale var (spec.addStep var (vsidsOf (now (activity .entry)) h p d s))) ⌝ }
+{
+    let step = s.step;
+    let inc = step.inc;
+    activity[var as usize] = activity[var as usize] + inc;
+    if activity[var as usize] > LIMIT {
+        activity::scale_all(activity);
+        return VsidsState {
+            len: s.len,
+            step: step.scaled(),
+        };
+    }
+    s
+}
+
+// Raises the activity of var by the step, and moves var up if it is a member.
+pub fn bump_variable(
+    activity: &mut [f64],
+    heap: &mut [u32],
+    indices: &mut [u32],
+    s: VsidsState,
+    var: u32,
+) -> VsidsState
+    requires { ⌜ Room (length (now activity)) (s .len) (placesOf (now heap) (now indices)) ⌝ }
+    requires { ⌜ Placed (length (now activity)) (s .len) (now indices) ⌝ }
+    requires { ⌜ var < length (now activity) ⌝ }
+    ensures { λ r. ⌜ ((d : List Bool) → vsidsOf (now (activity .exit)) (now (heap .exit)) (now (indices .exit)) d r ≡ spec.bumpVariable var (vsidsOf (now (activity .entry)) (now (heap .entry)) (now (indices .entry)) d s)) ⌝ }
+{
+    let raised = add_step(activity, s, var);
+    if heap::in_heap(indices, var) {
+        heap::decrease(activity, heap, indices, var);
+    }
+    raised
+}
+
+// Bumps the variable of each literal of a reason clause but the first, in order.
+pub fn bump_reason_literals(
+    activity: &mut [f64],
+    heap: &mut [u32],
+    indices: &mut [u32],
+    s: VsidsState,
+    clause: &[u32],
+) -> VsidsState
+    requires { ⌜ Room (length (now activity)) (s .len) (placesOf (now heap) (now indices)) ⌝ }
+    requires { ⌜ Placed (length (now activity)) (s .len) (now indices) ⌝ }
+    requires { ⌜ ((i : ℕ) → i < length (now clause) → index (getD (now clause) i 0) < length (now activity)) ⌝ }
+    ensures { λ r. ⌜ ((d : List Bool) → vsidsOf (now (activity .exit)) (now (heap .exit)) (now (indices .exit)) d r ≡ spec.bumpReasonLiterals (now (clause .entry)) (vsidsOf (now (activity .entry)) (now (heap .entry)) (now (indices .entry)) d s)) ⌝ }
+{
+    let mut state = s;
+    let mut i = 1;
+    while i < clause.len() {
+        state = bump_variable(activity, heap, indices, state, lit::index(clause[i]));
+        i += 1;
+    }
+    state
+}
+
+// Makes var a member if it is none and is switched on.
+pub fn insert(
+    activity: &[f64],
+    heap: &mut [u32],
+    indices: &mut [u32],
+    decision: &[bool],
+    s: VsidsState,
+    var: u32,
+) -> VsidsState
+    requires { ⌜ Room (length (now activity)) (s .len) (placesOf (now heap) (now indices)) ⌝ }
+    requires { ⌜ (var < length (now activity)) × (length (now decision) ≡ length (now activity)) ⌝ }
+    requires { ⌜ (inHeap (now indices) var ≡ false → s .len < length (now activity)) ⌝ }
+    ensures { λ r. ⌜ vsidsOf (now (activity .entry)) (now (heap .exit)) (now (indices .exit)) (now (decision .entry)) r ≡ spec.insert var (vsidsOf (now (activity .entry)) (now (heap .entry)) (now (indices .entry)) (now (decision .entry)) s) ⌝ }
+{
+    if heap::in_heap(indices, var) {
+        return s;
+    }
+    if !decision[var as usize] {
+        return s;
+    }
+    let len = s.len;
+    heap::insert(activity, heap, indices, len, var);
+    let step = s.step;
+    VsidsState { len: len + 1, step }
+}
+
+// Switches var off: it is never chosen again.
+pub fn turn_off_decision_for_idx(decision: &mut [bool], var: u32)
+    requires { ⌜ var < length (now decision) ⌝ }
+    ensures { λ _. ⌜ ((a : List Float) (h p : List ℕ) (s : VsidsState) → vsidsOf a h p (now (decision .exit)) s ≡ spec.turnOff var (vsidsOf a h p (now (decision .entry)) s)) ⌝ }
+{
+    decision[var as usize] = false;
+}
+
+// Divides the step by the decay.
+pub fn decay_var_inc(s: VsidsState) -> VsidsState
+    ensures { λ r. ⌜ ((a : List Float) (h p : List ℕ) (d : List Bool) → vsidsOf a h p d r ≡ spec.decayVarInc (vsidsOf a h p d s)) ⌝ }
+{
+    VsidsState {
+        len: s.len,
+        step: s.step.decayed(),
+    }
+}
+
+// Sets the decay.
+pub fn set_var_decay(s: VsidsState, decay: f64) -> VsidsState
+    ensures { λ r. ⌜ ((a : List Float) (h p : List ℕ) (d : List Bool) → vsidsOf a h p d r ≡ spec.setVarDecay decay (vsidsOf a h p d s)) ⌝ }
+{
+    VsidsState {
+        len: s.len,
+        step: s.step.with_decay(decay),
+    }
+}
+
+// Whether place i is good: in use it holds a variable whose position it is, and which does not come before its parent; else NONE.
+fn place_ok(activity: &[f64], heap: &[u32], indices: &[u32], len: u32, i: usize) -> bool
+    requires { ⌜ (length (now activity) ≤ maxVars) × ((length (now heap) ≡ length (now activity)) × (length (now indices) ≡ length (now activity))) ⌝ }
+    requires { ⌜ i < length (now heap) ⌝ }
+    requires { ⌜ ((j : ℕ) → j < i → j < len → getD (now heap) j 0 < length (now activity)) ⌝ }
+    ensures { λ r. ⌜ r ≡ check.placeOk (length (now (activity .entry))) len (comesFirst (now (activity .entry))) (placesOf (now (heap .entry)) (now (indices .entry))) i ⌝ }
+{
+    let x = heap[i];
+    if len as usize <= i {
+        return x == NONE;
+    }
+    if activity.len() <= x as usize {
+        return false;
+    }
+    if indices[x as usize] != i as u32 {
+        return false;
+    }
+    !heap::rises(activity, heap, x, i)
+}
+
+// Whether every place is good.
+fn places_ok(activity: &[f64], heap: &[u32], indices: &[u32], len: u32) -> bool
+    requires { ⌜ (length (now activity) ≤ maxVars) × ((length (now heap) ≡ length (now activity)) × (length (now indices) ≡ length (now activity))) ⌝ }
+    ensures { λ r. ⌜ r ≡ every (length (now (activity .entry))) (check.placeOk (length (now (activity .entry))) len (comesFirst (now (activity .entry))) (placesOf (now (heap .entry)) (now (indices .entry)))) ⌝ }
+{
+    let mut i = 0;
+    while i < heap.len() {
+        if !place_ok(activity, heap, indices, len, i) {
+            return false;
+        }
+        i += 1;
+    }
+    true
+}
+
+// Whether a variable is good: its activity in range, its position that of a member, or NONE where the variable is not open.
+fn variable_ok(
+    values: &[u8],
+    activity: &[f64],
+    heap: &[u32],
+    indices: &[u32],
+    decision: &[bool],
+    s: VsidsState,
+    v: usize,
+) -> bool
+    requires { ⌜ SameLengths (length (now activity)) (now values) (now heap) (now indices) (now decision) ⌝ }
+    requires { ⌜ (s .len ≤ length (now activity)) × (v < length (now activity)) ⌝ }
+    ensures { λ r. ⌜ r ≡ check.variableOk (now (values .entry)) (vsidsOf (now (activity .entry)) (now (heap .entry)) (now (indices .entry)) (now (decision .entry)) s) v ⌝ }
+{
+    if !activity::within(MAX_ACTIVITY, activity[v]) {
+        return false;
+    }
+    let p = indices[v];
+    let len = s.len;
+    if p == NONE {
+        return !is_open(values, decision, v as u32);
+    }
+    if len <= p {
+        return false;
+    }
+    heap[p as usize] == v as u32
+}
+
+// Whether every variable is good.
+fn variables_ok(
+    values: &[u8],
+    activity: &[f64],
+    heap: &[u32],
+    indices: &[u32],
+    decision: &[bool],
+    s: VsidsState,
+) -> bool
+    requires { ⌜ SameLengths (length (now activity)) (now values) (now heap) (now indices) (now decision) ⌝ }
+    requires { ⌜ s .len ≤ length (now activity) ⌝ }
+    ensures { λ r. ⌜ r ≡ every (length (now (activity .entry))) (check.variableOk (now (values .entry)) (vsidsOf (now (activity .entry)) (now (heap .entry)) (now (indices .entry)) (now (decision .entry)) s)) ⌝ }
+{
+    let mut v = 0;
+    while v < activity.len() {
+        if !variable_ok(values, activity, heap, indices, decision, s, v) {
+            return false;
+        }
+        v += 1;
+    }
+    true
+}
+
+// Whether lent memory is a good heap for these values.
+pub fn check_heap(
+    values: &[u8],
+    activity: &[f64],
+    heap: &[u32],
+    indices: &[u32],
+    decision: &[bool],
+    s: VsidsState,
+) -> bool
+    requires { ⌜ SameLengths (length (now activity)) (now values) (now heap) (now indices) (now decision) ⌝ }
+    ensures { λ r. ⌜ r ≡ check.checkHeap (length (now (activity .entry))) (now (values .entry)) (vsidsOf (now (activity .entry)) (now (heap .entry)) (now (indices .entry)) (now (decision .entry)) s) ⌝ }
+{
+    let len = s.len;
+    let step = s.step;
+    if activity.len() < len as usize {
+        return false;
+    }
+    if !activity::good_step(step) {
+        return false;
+    }
+    if !places_ok(activity, heap, indices, len) {
+        return false;
+    }
+    variables_ok(values, activity, heap, indices, decision, s)
+}
