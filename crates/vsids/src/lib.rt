@@ -229,7 +229,7 @@ fn place_ok(activity: &[f64], heap: &[u32], indices: &[u32], len: u32, i: usize)
 // Whether every place is good.
 fn places_ok(activity: &[f64], heap: &[u32], indices: &[u32], len: u32) -> bool
     requires { ⌜ (length (now activity) ≤ maxVars) × ((length (now heap) ≡ length (now activity)) × (length (now indices) ≡ length (now activity))) ⌝ }
-    ensures { λ r. ⌜ r ≡ every (length (now (activity .entry))) (check.placeOk (length (now (activity .entry))) len (comesFirst (now (activity .entry))) (placesOf (now (heap .entry)) (now (indices .entry)))) ⌝ }
+    ensures { λ r. ⌜ r ≡ every (check.placeOk (length (now (activity .entry))) len (comesFirst (now (activity .entry))) (placesOf (now (heap .entry)) (now (indices .entry)))) (length (now (activity .entry))) ⌝ }
 {
     let mut i = 0;
     while i < heap.len() {
@@ -280,7 +280,7 @@ fn variables_ok(
 ) -> bool
     requires { ⌜ SameLengths (length (now activity)) (now values) (now heap) (now indices) (now decision) ⌝ }
     requires { ⌜ s .len ≤ length (now activity) ⌝ }
-    ensures { λ r. ⌜ r ≡ every (length (now (activity .entry))) (check.variableOk (now (values .entry)) (vsidsOf (now (activity .entry)) (now (heap .entry)) (now (indices .entry)) (now (decision .entry)) s)) ⌝ }
+    ensures { λ r. ⌜ r ≡ every (check.variableOk (now (values .entry)) (vsidsOf (now (activity .entry)) (now (heap .entry)) (now (indices .entry)) (now (decision .entry)) s)) (length (now (activity .entry))) ⌝ }
 {
     let mut v = 0;
     while v < activity.len() {
