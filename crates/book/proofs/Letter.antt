@@ -1,5 +1,4 @@
 -- Document 01 by the letter. The book oldest entry first: `back`, `codes` and `openings` are what it says, by adding an entry at the end.
--- And the bounds of refusal 12, computed.
 use Prim.Native.Nat.{ℕ, zero, suc, _+_, _≤_, _<_}
 use mathlib.Core.Path.{_≡_, refl, sym, ap, _∙_}
 use mathlib.Core.Bool.{Bool, true, false}
@@ -8,8 +7,6 @@ use native.Mathlib.Omega.{arith}
 use native.Mathlib.Nat.{add-zero}
 use native.Mathlib.Decide.{decLt}
 use lib.ListN.{length, length-reverse}
-use lib.Ieee.{nan, binary64, ofBits, round, le}
-use Rattle.book.specs.Chooser.{half, one, goodDecay}
 use Rattle.book.specs.Book.{Entry, entry, Book, presentLevel, back, codes, openings}
 use Rattle.book.proofs.Books.{back-same, back-over}
 
@@ -93,16 +90,3 @@ openings-by-the-letter (entry c r o ∷ b) =
     go : (o : Bool) → openings (entry c r o ∷ b) ≡ openings b ++ places (length b) (entry c r o ∷ [])
     go true = refl
     go false = sym (append-nil (openings b))
-
--- 'NaN, below 0.5 or above 1'
-half-is : half ≡ round binary64 false 1 2
-unfolding ofBits round
-half-is = refl
-
-one-is : one ≡ round binary64 false 1 1
-unfolding ofBits round
-one-is = refl
-
-no-nan : goodDecay nan ≡ false
-unfolding ofBits le
-no-nan = refl

@@ -6,9 +6,10 @@ use mathlib.Core.Option.{Option, none, some}
 use mathlib.Core.List.{List, [], _∷_}
 use lib.ListN.{set, replicate}
 use lib.Dec.{ltb, eqb}
-use lib.Ieee.{Float, le, ofBits, binary64}
+use lib.Ieee.{Float}
 use Rattle.lit.specs.Numbers.{NONE, unassigned}
 use Rattle.lit.specs.Lits.{isAssigned}
+use Rattle.activity.specs.Step.{goodDecay}
 use Rattle.book.specs.Book.{without}
 
 -- the operations that only move a chooser's order: `bump_variable`, `decay_var_inc`, `set_var_decay`,
@@ -20,7 +21,7 @@ pub data Tune : Type 0 where
   bumpReasonLiterals : ℕ → Tune
   bumpVecOfVars : List ℕ → Tune
 
--- the tests that refusals 8, 10 and 12 make of arguments. 8, for a group: every variable is below n
+-- the tests that refusals 8 and 10 make of arguments; for 12 it is `goodDecay`. 8, for a group: every variable is below n
 unfoldable pub below : ℕ → List ℕ → Bool
 below n [] = true
 below n (v ∷ vs) = ltb v n && below n vs
@@ -28,16 +29,6 @@ below n (v ∷ vs) = ltb v n && below n vs
 -- 10: NONE, or the number of one of m clauses
 abbrev pub goodReason : ℕ → ℕ → Bool
 goodReason m r = eqb r NONE || ltb r m
-
--- 12: from 0.5 to 1. Of a NaN no comparison holds
-abbrev pub half : Float
-half = ofBits binary64 0x3fe0_0000_0000_0000
-
-abbrev pub one : Float
-one = ofBits binary64 0x3ff0_0000_0000_0000
-
-abbrev pub goodDecay : Float → Bool
-goodDecay d = le half d && le d one
 
 -- what a session knows of the arguments when it hands an operation on
 unfoldable pub fits : ℕ → ℕ → Tune → Bool

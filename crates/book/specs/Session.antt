@@ -7,9 +7,10 @@ use lib.ListN.{getD}
 use lib.Dec.{ltb}
 use Rattle.lit.specs.Numbers.{NONE, noVariable, badPolarity, badReason, assigned, badDecay, largeStep, pastOpen}
 use Rattle.lit.specs.Lits.{index, isAssigned}
+use Rattle.activity.specs.Step.{goodDecay}
 use Rattle.trail.specs.Trail.{Trail, freshTrail, enqAssignment, enqDecision, backtrackSafe, undone}
 use Rattle.book.specs.Calls.{Call, bump, decay, setDecay, insert, switchOff, decide, enqueue, learnUnit, goBack, bumpReason, group}
-use Rattle.book.specs.Chooser.{bumpVariable, decayVarInc, setVarDecay, bumpReasonLiterals, bumpVecOfVars, below, goodReason, goodDecay, Next, chose, nothing, stuck, Operations}
+use Rattle.book.specs.Chooser.{bumpVariable, decayVarInc, setVarDecay, bumpReasonLiterals, bumpVecOfVars, below, goodReason, Next, chose, nothing, stuck, Operations}
 
 -- 'Every call returns 0 with its reply, or the first of these with reply NONE; then state and buffers are unchanged'
 pub data Result (S : Type 0) : Type 0 where
