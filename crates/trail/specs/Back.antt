@@ -1,12 +1,12 @@
 -- Going back to level l of a good trail leaves the part below that level's opening, and it is good.
-use Prim.Native.Nat.{ℕ, _-_, _≤_, _<_}
+use Prim.Native.Nat.{ℕ, _-_, _<_}
 use mathlib.Core.Path.{_≡_, refl, sym, ap, _∙_, subst}
 use mathlib.Core.Logic.{inr, _≢_, by-cases}
 use mathlib.Core.List.{_++_}
 use native.Mathlib.Omega.{arith}
 use native.Mathlib.Decide.{ℕ-discrete}
 use borrow.Author.Tests.{ltb-true, lt-leb}
-use lib.ListN.{length, take, replicate}
+use lib.ListN.{take, replicate}
 use lib.Dec.{leb, ltb}
 use Rattle.laws.specs.Tests.{cond-elim}
 use Rattle.laws.specs.Some.{count-cut, count-same}
@@ -16,7 +16,7 @@ use Rattle.lit.specs.Lits.{index}
 use Rattle.trail.specs.Trail.{Trail, backsteps, closeLevels, rewind, howMany, backtrackTo, backtrackSafe, learnUnit}
 use Rattle.trail.specs.Good.{valueAt, reasonAt, varAt, openedAt, notAbove, GoodTrail}
 use Rattle.trail.specs.Laws.{enq-good}
-use Rattle.trail.specs.Undoing.{StackOf, Kept, Clean, stack, clean, kept-clean, backsteps-stack, close-stack, kept-kept, steps-kept, close-kept}
+use Rattle.trail.specs.Undoing.{StackOf, Kept, stack, clean, kept-clean, backsteps-stack, close-stack, kept-kept, steps-kept, close-kept}
 
 -- u is what going back to level l leaves of t, over n variables
 pub record WentBack (n l : ℕ) (t u : Trail) : Type 0 where

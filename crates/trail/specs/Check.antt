@@ -8,7 +8,7 @@ use lib.Dec.{leb, ltb, eqb}
 use Rattle.laws.specs.Every.{every}
 use Rattle.laws.specs.Some.{some}
 use Rattle.lit.specs.Numbers.{NONE, unassigned}
-use Rattle.lit.specs.Lits.{index, polarity, isAssigned, litSat}
+use Rattle.lit.specs.Lits.{index, isAssigned, litSat}
 use Rattle.trail.specs.Trail.{Trail}
 use Rattle.trail.specs.Good.{notAbove}
 
