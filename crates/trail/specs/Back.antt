@@ -106,16 +106,18 @@ module _ {n m l : ℕ} {t : Trail} (g : GoodTrail n m t) (h : l < t .level) wher
         opened-unused = λ i b. k .opened-unused i (omega (arith, k .level-is));
       }
 
+  -- a variable that stands on no kept place is unassigned
+  gone : (v : ℕ) → v < n → ((i : ℕ) → i < openedAt t l → varAt t i ≢ v) → valueAt (backtrackTo l t) v ≡ unassigned
+  gone v b f = by-cases (ℕ-discrete (valueAt (backtrackTo l t) v) unassigned) (λ e. e) (λ e.
+      let w = back-stack .held v b e in
+      let k = back-kept in
+      let c : w .0 < openedAt t l = omega (arith, w .1 .0, k .len-is) in
+      absurd (f (w .0) c (sym (ap index (k .codes (w .0) c)) ∙ w .1 .1)))
+
   pub went-back : WentBack n l t (backtrackTo l t)
   went-back =
       let s = back-stack in
       let k = back-kept in
-      let place : (i : ℕ) → i < openedAt t l → i < backtrackTo l t .len = λ i b. omega (arith, k .len-is) in
-      let gone : (v : ℕ) → v < n → ((i : ℕ) → i < openedAt t l → varAt t i ≢ v) → valueAt (backtrackTo l t) v ≡ unassigned = λ v b f.
-      by-cases (ℕ-discrete (valueAt (backtrackTo l t) v) unassigned) (λ e. e) (λ e.
-      let w = s .held v b e in
-      let c : w .0 < openedAt t l = omega (arith, w .1 .0, k .len-is) in
-      absurd (f (w .0) c (sym (ap index (k .codes (w .0) c)) ∙ w .1 .1))) in
       record {
         len-is = k .len-is;
         level-is = k .level-is;
@@ -123,7 +125,7 @@ module _ {n m l : ℕ} {t : Trail} (g : GoodTrail n m t) (h : l < t .level) wher
         trail-is = prefix-is n (openedAt t l) (t .trail) (backtrackTo l t .trail) NONE 0 (g .lengths .trail-long) (s .trail-long) (omega (arith, g .below l h, g .len-in)) (k .codes) (λ i b. s .trail-unused i (omega (arith, k .len-is)));
         opened-is = prefix-is n l (t .opened) (backtrackTo l t .opened) NONE 0 (g .lengths .opened-long) (k .opened-long) (omega (arith, g .level-in)) (k .opens) (k .opened-unused);
         levels-is = k .levels-is;
-        value-kept = λ i b. rw (k .codes i b) at (s .agrees i (place i b)) ∙ sym (g .agrees i (omega (arith, g .below l h)));
+        value-kept = λ i b. rw (k .codes i b) at (s .agrees i (omega (arith, k .len-is))) ∙ sym (g .agrees i (omega (arith, g .below l h)));
         reason-kept = k .reasons;
         value-gone = gone;
         reason-gone = λ v b f. s .no-reason v b (gone v b f);
