@@ -1,16 +1,13 @@
 -- The two loops of `backtrack_to`: what their invariants say, and that a turn keeps it. The invariant is that running the
 -- definition from here gives what it gives from the start.
 use Prim.Native.Nat.{ℕ, zero, suc, _+_, _-_, _≤_, _<_}
-use mathlib.Core.Path.{_≡_, refl, sym, ap, _∙_}
+use mathlib.Core.Path.{_≡_, refl, ap, _∙_}
 use mathlib.Core.List.{List}
 use native.Mathlib.Omega.{arith}
-use lib.Dec.{ltb}
-use lib.ListN.{length, getD, set, length-set}
+use lib.ListN.{length, set, length-set}
 use lib.Seq.{getD-set-other}
-use Rattle.laws.specs.Tests.{cond-elim}
 use Rattle.lit.specs.Numbers.{NONE}
-use Rattle.lit.specs.Lits.{index}
-use Rattle.trail.specs.Trail.{Trail, backstep, backsteps, closeLevels, rewind, howMany, backtrackTo, backtrackSafe}
+use Rattle.trail.specs.Trail.{Trail, backstep, backsteps, closeLevels, rewind, howMany, backtrackTo}
 use Rattle.trail.specs.Memory.{trailOf, Room}
 use Rattle.trail.specs.declared.TrailState.{TrailState}
 
@@ -80,36 +77,3 @@ unfolding backtrackTo
 went-back l t u w e q =
     let h : u .level ≡ t .level = ap (λ (x : Trail). x .level) e ∙ backsteps-level (howMany l t) t in
     ap rewind (q ∙ ap (λ (x : ℕ). closeLevels (x - l) u) h ∙ ap (closeLevels (t .level - l)) e)
-
--- going back keeps what safety needs
-backsteps-room : {n : ℕ} (k : ℕ) {t : Trail} → Room n t → Room n (backsteps k t)
-unfolding backsteps
-backsteps-room zero r = r
-backsteps-room (suc k) r = backsteps-room k (backstep-room r)
-
-close-room : {n : ℕ} (k : ℕ) {t : Trail} → Room n t → Room n (closeLevels k t)
-unfolding closeLevels
-close-room zero r = r
-close-room (suc k) r = close-room k (record {
-  small = r .small;
-  lengths = record {
-    values-long = r .lengths .values-long;
-    levels-long = r .lengths .levels-long;
-    reasons-long = r .lengths .reasons-long;
-    trail-long = r .lengths .trail-long;
-    opened-long = simp length-set (r .lengths .opened-long);
-  };
-  len-in = r .len-in;
-  level-in = omega (arith, r .level-in);
-  codes-in = r .codes-in;
-})
-
-pub back-room : {n : ℕ} (l : ℕ) {t : Trail} → Room n t → Room n (backtrackSafe l t)
-unfolding backtrackTo backtrackSafe rewind
-back-room {n} l {t} r = cond-elim (Room n) (ltb l (t .level)) (λ _. let w = close-room (t .level - l) (backsteps-room (howMany l t) r) in record {
-  small = w .small;
-  lengths = w .lengths;
-  len-in = w .len-in;
-  level-in = w .level-in;
-  codes-in = w .codes-in;
-}) (λ _. r)

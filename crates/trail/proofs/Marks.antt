@@ -1,6 +1,6 @@
 -- Marking the trail's variables: what a turn of the walk over the trail finds, and what it leaves.
 use Prim.Native.Nat.{ℕ, _+_, _≤_, _<_}
-use mathlib.Core.Path.{_≡_, refl, sym, ap, _∙_}
+use mathlib.Core.Path.{_≡_, sym, ap}
 use mathlib.Core.Bool.{Bool, true, false, not, _&&_, _||_, or-true, or-false}
 use mathlib.Core.List.{List}
 use native.Mathlib.Omega.{arith}

@@ -1,12 +1,12 @@
 -- Going back to level l of a good trail leaves the part below that level's opening, and it is good.
-use Prim.Native.Nat.{ℕ, _-_, _≤_, _<_}
-use mathlib.Core.Path.{_≡_, refl, sym, ap, _∙_}
+use Prim.Native.Nat.{ℕ, _-_, _<_}
+use mathlib.Core.Path.{_≡_, refl, sym, ap, _∙_, subst}
 use mathlib.Core.Logic.{inr, _≢_, by-cases}
 use mathlib.Core.List.{_++_}
 use native.Mathlib.Omega.{arith}
 use native.Mathlib.Decide.{ℕ-discrete}
 use borrow.Author.Tests.{ltb-true, lt-leb}
-use lib.ListN.{length, take, replicate}
+use lib.ListN.{take, replicate}
 use lib.Dec.{leb, ltb}
 use Rattle.laws.specs.Tests.{cond-elim}
 use Rattle.laws.specs.Some.{count-cut, count-same}
@@ -16,7 +16,7 @@ use Rattle.lit.specs.Lits.{index}
 use Rattle.trail.specs.Trail.{Trail, backsteps, closeLevels, rewind, howMany, backtrackTo, backtrackSafe, learnUnit}
 use Rattle.trail.specs.Good.{valueAt, reasonAt, varAt, openedAt, notAbove, GoodTrail}
 use Rattle.trail.specs.Laws.{enq-good}
-use Rattle.trail.specs.Undoing.{Stack, Kept, stack, backsteps-stack, close-stack, kept-kept, steps-kept, close-kept}
+use Rattle.trail.specs.Undoing.{StackOf, Kept, stack, clean, kept-clean, backsteps-stack, close-stack, kept-kept, steps-kept, close-kept}
 
 -- u is what going back to level l leaves of t, over n variables
 pub record WentBack (n l : ℕ) (t u : Trail) : Type 0 where
@@ -34,31 +34,16 @@ pub record WentBack (n l : ℕ) (t u : Trail) : Type 0 where
   pub reason-gone : (v : ℕ) → v < n → ((i : ℕ) → i < openedAt t l → varAt t i ≢ v) → reasonAt u v ≡ NONE
 
 module _ {n m l : ℕ} {t : Trail} (g : GoodTrail n m t) (h : l < t .level) where
-  enough : howMany l t ≤ t .len
-  enough = omega arith
-
-  back-stack : Stack n m (backtrackTo l t)
+  back-stack : StackOf n m (backtrackTo l t)
   unfolding backtrackTo rewind
-  back-stack = let s = close-stack (t .level - l) (backsteps-stack (howMany l t) (stack g) enough) in record {
-    lengths = s .lengths;
-    values-good = s .values-good;
-    reasons-good = s .reasons-good;
-    no-reason = s .no-reason;
-    len-in = s .len-in;
-    codes-in = s .codes-in;
-    agrees = s .agrees;
-    held = s .held;
-    once = s .once;
-    trail-unused = s .trail-unused;
-  }
+  back-stack = close-stack (t .level - l) (backsteps (howMany l t) t) (backsteps-stack (howMany l t) t (stack g) (omega arith))
 
   pub back-kept : Kept n (openedAt t l) l t (backtrackTo l t)
   unfolding backtrackTo rewind
   back-kept =
       let b = backsteps (howMany l t) t in
-      let steps : Kept n (openedAt t l) (t .level) t b = steps-kept (howMany l t) (openedAt t l) t (stack g) (g .opened-unused) (omega (arith, g .below l h)) in
-      let closed : Kept n (openedAt t l) l b (closeLevels (t .level - l) b) =
-      close-kept (t .level - l) (openedAt t l) l b (backsteps-stack (howMany l t) (stack g) enough) (λ k c. steps .opened-unused k (omega (arith, steps .level-is))) (omega (arith, steps .level-is, g .level-in)) (steps .len-is) (omega (arith, steps .level-is)) in
+      let steps : Kept n (openedAt t l) (t .level) t b = steps-kept (howMany l t) (openedAt t l) t (stack g) (clean g) (omega (arith, g .below l h)) in
+      let closed : Kept n (openedAt t l) l b (closeLevels (t .level - l) b) = subst (λ (k : ℕ). Kept n k l b (closeLevels (t .level - l) b)) (steps .len-is) (close-kept (t .level - l) l b (kept-clean (g .level-in) steps) (omega (arith, steps .level-is))) in
       let all = kept-kept (omega arith) (omega arith) steps closed in
       record {
         len-is = all .len-is;
@@ -68,6 +53,7 @@ module _ {n m l : ℕ} {t : Trail} (g : GoodTrail n m t) (h : l < t .level) wher
         reasons = all .reasons;
         opens = all .opens;
         opened-unused = all .opened-unused;
+        opened-long = all .opened-long;
       }
 
   -- the levels not above a kept place are those that were
@@ -90,7 +76,13 @@ module _ {n m l : ℕ} {t : Trail} (g : GoodTrail n m t) (h : l < t .level) wher
       let s = back-stack in
       let k = back-kept in
       record {
-        lengths = s .lengths;
+        lengths = record {
+          values-long = s .values-long;
+          levels-long = rw (k .levels-is) (g .lengths .levels-long);
+          reasons-long = s .reasons-long;
+          trail-long = s .trail-long;
+          opened-long = k .opened-long;
+        };
         values-good = s .values-good;
         reasons-good = s .reasons-good;
         no-reason = s .no-reason;
@@ -114,24 +106,26 @@ module _ {n m l : ℕ} {t : Trail} (g : GoodTrail n m t) (h : l < t .level) wher
         opened-unused = λ i b. k .opened-unused i (omega (arith, k .level-is));
       }
 
+  -- a variable that stands on no kept place is unassigned
+  gone : (v : ℕ) → v < n → ((i : ℕ) → i < openedAt t l → varAt t i ≢ v) → valueAt (backtrackTo l t) v ≡ unassigned
+  gone v b f = by-cases (ℕ-discrete (valueAt (backtrackTo l t) v) unassigned) (λ e. e) (λ e.
+      let w = back-stack .held v b e in
+      let k = back-kept in
+      let c : w .0 < openedAt t l = omega (arith, w .1 .0, k .len-is) in
+      absurd (f (w .0) c (sym (ap index (k .codes (w .0) c)) ∙ w .1 .1)))
+
   pub went-back : WentBack n l t (backtrackTo l t)
   went-back =
       let s = back-stack in
       let k = back-kept in
-      let place : (i : ℕ) → i < openedAt t l → i < backtrackTo l t .len = λ i b. omega (arith, k .len-is) in
-      let gone : (v : ℕ) → v < n → ((i : ℕ) → i < openedAt t l → varAt t i ≢ v) → valueAt (backtrackTo l t) v ≡ unassigned = λ v b f.
-      by-cases (ℕ-discrete (valueAt (backtrackTo l t) v) unassigned) (λ e. e) (λ e.
-      let w = s .held v b e in
-      let c : w .0 < openedAt t l = omega (arith, w .1 .0, k .len-is) in
-      absurd (f (w .0) c (sym (ap index (k .codes (w .0) c)) ∙ w .1 .1))) in
       record {
         len-is = k .len-is;
         level-is = k .level-is;
         curr-is = back-curr;
-        trail-is = prefix-is n (openedAt t l) (t .trail) (backtrackTo l t .trail) NONE 0 (g .lengths .trail-long) (s .lengths .trail-long) (omega (arith, g .below l h, g .len-in)) (k .codes) (λ i b. s .trail-unused i (omega (arith, k .len-is)));
-        opened-is = prefix-is n l (t .opened) (backtrackTo l t .opened) NONE 0 (g .lengths .opened-long) (s .lengths .opened-long) (omega (arith, g .level-in)) (k .opens) (k .opened-unused);
+        trail-is = prefix-is n (openedAt t l) (t .trail) (backtrackTo l t .trail) NONE 0 (g .lengths .trail-long) (s .trail-long) (omega (arith, g .below l h, g .len-in)) (k .codes) (λ i b. s .trail-unused i (omega (arith, k .len-is)));
+        opened-is = prefix-is n l (t .opened) (backtrackTo l t .opened) NONE 0 (g .lengths .opened-long) (k .opened-long) (omega (arith, g .level-in)) (k .opens) (k .opened-unused);
         levels-is = k .levels-is;
-        value-kept = λ i b. rw (k .codes i b) at (s .agrees i (place i b)) ∙ sym (g .agrees i (omega (arith, g .below l h)));
+        value-kept = λ i b. rw (k .codes i b) at (s .agrees i (omega (arith, k .len-is))) ∙ sym (g .agrees i (omega (arith, g .below l h)));
         reason-kept = k .reasons;
         value-gone = gone;
         reason-gone = λ v b f. s .no-reason v b (gone v b f);

@@ -8,7 +8,7 @@ use lib.Dec.{leb, ltb, eqb}
 use Rattle.laws.specs.Every.{every}
 use Rattle.laws.specs.Some.{some}
 use Rattle.lit.specs.Numbers.{NONE, unassigned}
-use Rattle.lit.specs.Lits.{index, polarity, isAssigned, litSat}
+use Rattle.lit.specs.Lits.{index, isAssigned, litSat}
 use Rattle.trail.specs.Trail.{Trail}
 use Rattle.trail.specs.Good.{notAbove}
 
@@ -67,15 +67,15 @@ placesOk values trail len = every (placeOk values trail) len
 abbrev pub heldAt : List ℕ → List ℕ → ℕ → ℕ → Bool
 heldAt values trail len v = leb unassigned (getD values v 0) || stands trail v len
 
+unfoldable pub heldOk : List ℕ → List ℕ → ℕ → Bool
+heldOk values trail len = every (heldAt values trail len) (length values)
+
 -- the same by the marks
 abbrev pub coveredAt : List ℕ → List Bool → ℕ → Bool
 coveredAt values marks v = leb unassigned (getD values v 0) || getD marks v false
 
 unfoldable pub coveredOk : List ℕ → List Bool → Bool
 coveredOk values marks = every (coveredAt values marks) (length values)
-
-unfoldable pub heldOk : List ℕ → List ℕ → ℕ → Bool
-heldOk values trail len = every (heldAt values trail len) (length values)
 
 -- the level of place i from that of the place before: one more where a level was opened at i
 abbrev pub climb : List ℕ → ℕ → ℕ → ℕ → ℕ

@@ -1,8 +1,8 @@
 -- The check's tests say what the facts say: each test against its fact or two, then the whole.
-use Prim.Native.Nat.{ℕ, zero, suc, _+_, _-_, _≤_, _<_}
-use mathlib.Core.Path.{_≡_, refl, sym, ap, _∙_}
+use Prim.Native.Nat.{ℕ, zero, suc, _-_, _≤_, _<_}
+use mathlib.Core.Path.{_≡_, sym, _∙_}
 use mathlib.Core.Logic.{_↔_, _⊎_, inl, inr, _≢_, by-cases, ⊎-elim}
-use mathlib.Core.Bool.{Bool, true, false, not, _&&_, _||_, false≢true}
+use mathlib.Core.Bool.{true, false, false≢true}
 use mathlib.Core.List.{List}
 use native.Mathlib.Omega.{arith}
 use native.Mathlib.Decide.{ℕ-discrete, decLt}
@@ -11,10 +11,10 @@ use lib.ListN.{length, getD}
 use lib.Dec.{leb, ltb, eqb}
 use Rattle.laws.specs.Tests.{and-left, and-right, and-both}
 use Rattle.laws.specs.Choices.{or-left, or-right, or-cases}
-use Rattle.laws.specs.Every.{every, every-at, every-all}
-use Rattle.laws.specs.Some.{some, some-at, some-none, some-found}
+use Rattle.laws.specs.Every.{every-at, every-all}
+use Rattle.laws.specs.Some.{some-at, some-none, some-found}
 use Rattle.lit.specs.Numbers.{NONE, unassigned}
-use Rattle.lit.specs.Lits.{index, polarity, isAssigned, litSat}
+use Rattle.lit.specs.Lits.{index, polarity, litSat}
 use Rattle.trail.specs.Trail.{Trail}
 use Rattle.trail.specs.Memory.{Sized}
 use Rattle.trail.specs.Good.{IsReason, notAbove, GoodTrail}

@@ -1,8 +1,8 @@
 -- Laws of the trail: a fresh trail is good, and putting a literal on a good trail keeps it good.
-use Prim.Native.Nat.{ℕ, zero, suc, _+_, _-_, _*_, _≤_, _<_}
+use Prim.Native.Nat.{ℕ, zero, suc, _+_, _-_, _≤_, _<_}
 use mathlib.Core.Path.{_≡_, refl, sym, ap, _∙_}
-use mathlib.Core.Logic.{_⊎_, inr, _≢_, by-cases}
-use mathlib.Core.Bool.{Bool, true, false}
+use mathlib.Core.Logic.{inr, _≢_, by-cases}
+use mathlib.Core.Bool.{false}
 use mathlib.Core.List.{List}
 use native.Mathlib.Omega.{arith}
 use native.Mathlib.Decide.{ℕ-discrete}
@@ -11,13 +11,13 @@ use lib.ListN.{length, getD, set, length-set, length-replicate, getD-replicate}
 use lib.Seq.{getD-set-same, getD-set-other, set-getD}
 use lib.Dec.{leb}
 use Rattle.laws.specs.Lists.{set-cases}
-use Rattle.laws.specs.Some.{count, count-all, count-cut, count-same}
+use Rattle.laws.specs.Some.{count-all, count-cut, count-same}
 use Rattle.laws.specs.Pigeonhole.{missed}
 use Rattle.lit.specs.Numbers.{NONE, unassigned, maxVars}
 use Rattle.lit.specs.Lits.{index, polarity, new}
 use Rattle.trail.specs.Trail.{Trail, freshTrail, enqAssignment, enqDecision}
-use Rattle.trail.specs.Memory.{Sized, Room, Levelled}
-use Rattle.trail.specs.Good.{valueAt, levelAt, reasonAt, codeAt, varAt, openedAt, notAbove, IsReason, GoodTrail}
+use Rattle.trail.specs.Memory.{Room, RoomFor, Levelled}
+use Rattle.trail.specs.Good.{valueAt, varAt, openedAt, notAbove, IsReason, GoodTrail}
 
 pub fresh-good : (n m : ℕ) → GoodTrail n m (freshTrail n)
 unfolding freshTrail
@@ -68,6 +68,9 @@ module _ {n m : ℕ} {t : Trail} (g : GoodTrail n m t) where
   -- what safety needs
   pub room : n ≤ maxVars → Room n t
   room h = record { small = h; lengths = g .lengths; len-in = g .len-in; level-in = g .level-in; codes-in = g .codes-in }
+
+  pub room-var : n ≤ maxVars → (v : ℕ) → v < n → valueAt t v ≡ unassigned → RoomFor n v t
+  room-var h v b e = record { room = room h; free = room-for v b e; var-in = b }
 
   pub levelled : n ≤ maxVars → Levelled n t
   levelled h = record { room = room h; opened-in = λ k b. omega (arith, g .below k b) }

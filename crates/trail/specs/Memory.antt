@@ -40,6 +40,12 @@ pub record Room (n : ℕ) (t : Trail) : Type 0 where
   pub level-in : t .level ≤ n
   pub codes-in : (i : ℕ) → i < t .len → index (getD (t .trail) i 0) < n
 
+-- What putting a literal of variable v on the trail needs: a free place.
+pub record RoomFor (n v : ℕ) (t : Trail) : Type 0 where
+  pub room : Room n t
+  pub free : t .len < n
+  pub var-in : v < n
+
 -- What going back needs: the opened levels lie on the trail, too.
 pub record Levelled (n : ℕ) (t : Trail) : Type 0 where
   pub room : Room n t

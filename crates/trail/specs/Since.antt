@@ -1,24 +1,21 @@
 -- Going back to level L leaves the records as they were just before the decision that opened level L+1, whatever was put on the
 -- trail or taken off it since, as long as it stayed above level L.
-use Prim.Native.Nat.{ℕ, suc, _+_, _-_, _*_, _≤_, _<_}
+use Prim.Native.Nat.{ℕ, _+_, _-_, _*_, _<_}
 use mathlib.Core.Path.{_≡_, refl, sym, ap, _∙_}
 use mathlib.Core.Logic.{_≢_, by-cases}
 use mathlib.Core.List.{List}
 use native.Mathlib.Omega.{arith}
 use native.Mathlib.Decide.{ℕ-discrete, decLt}
 use borrow.Author.Tests.{ltb-true}
-use lib.ListN.{length, getD, set}
 use lib.Seq.{getD-set-same, getD-set-other, ext-getD}
 use lib.Dec.{ltb}
 use Rattle.laws.specs.Tests.{cond-elim}
-use Rattle.laws.specs.Some.{count-same}
-use Rattle.lit.specs.Numbers.{NONE, unassigned}
+use Rattle.lit.specs.Numbers.{unassigned}
 use Rattle.lit.specs.Lits.{index, polarity}
 use Rattle.trail.specs.Trail.{Trail, enqAssignment, enqDecision, backtrackTo, backtrackSafe}
 use Rattle.trail.specs.Good.{valueAt, levelAt, reasonAt, codeAt, varAt, openedAt, notAbove, IsReason, GoodTrail}
 use Rattle.trail.specs.Laws.{on-trail, room-for, level-len, enq-good, dec-good}
-use Rattle.trail.specs.Undoing.{Kept}
-use Rattle.trail.specs.Back.{back-kept, back-to-good, back-good}
+use Rattle.trail.specs.Back.{back-kept, back-to-good}
 
 -- u is t after a decision on t and any operations since, that stay above t's level
 pub data Since (n m : ℕ) (t : Trail) : Trail → Type 0 where

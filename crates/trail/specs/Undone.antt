@@ -2,7 +2,7 @@
 -- one gives the values that going back leaves.
 use Prim.Native.Nat.{ℕ, zero, suc, _+_, _-_, _≤_, _<_}
 use mathlib.Core.Path.{_≡_, refl, sym, ap, _∙_}
-use mathlib.Core.List.{List, [], _∷_, _++_, map, reverse, map-append, reverse-append}
+use mathlib.Core.List.{List, [], _∷_, map, reverse, map-append, reverse-append}
 use native.Mathlib.Omega.{arith}
 use lib.ListN.{length, getD, set, take, drop, length-drop, length-set}
 use lib.Seq.{take-suc, getD-drop, take-set-le, drop-set-add}

@@ -41,6 +41,7 @@ fn reason_ok(m: u32, values: &[u8], reasons: &[u32], v: usize) -> bool
     reasons[v] == NONE || (reasons[v] < m && values[v] < UNASSIGNED)
 }
 
+// Whether every variable's reason is so.
 fn reasons_ok(m: u32, values: &[u8], reasons: &[u32]) -> bool
     requires { ⌜ length (now reasons) ≡ length (now values) ⌝ }
     ensures { λ r. ⌜ r ≡ spec.reasonsOk m (now (values .entry)) (now (reasons .entry)) ⌝ }
@@ -78,6 +79,7 @@ fn level_ok(opened: &[u32], len: u32, k: usize) -> bool
     opened[k] < len && (k == 0 || opened[k - 1] < opened[k])
 }
 
+// Whether every opened level in use does.
 fn opened_ok(opened: &[u32], level: u32, len: u32) -> bool
     requires { ⌜ level ≤ length (now opened) ⌝ }
     ensures { λ r. ⌜ r ≡ spec.openedOk (now (opened .entry)) level len ⌝ }
@@ -128,6 +130,7 @@ fn covered(values: &[u8], marks: &[bool], v: usize) -> bool
     values[v] >= UNASSIGNED || marks[v]
 }
 
+// Whether every variable is so: every assigned one is marked.
 fn covered_ok(values: &[u8], marks: &[bool]) -> bool
     requires { ⌜ length (now values) ≤ length (now marks) ⌝ }
     ensures { λ r. ⌜ r ≡ spec.coveredOk (now (values .entry)) (now (marks .entry)) ⌝ }

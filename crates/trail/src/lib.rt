@@ -1,5 +1,6 @@
 // The trail of trail.rs over lent slices of length N: for each variable its value, level and reason; the literals on the
 // trail; and for each opened level the trail's length before its decision. Unused places hold NONE.
+// A slice that a function leaves alone is passed as `&`, so that its contract names the whole trail.
 ghost use mathlib.Core.Path.{_≡_};
 ghost use Prim.Native.Nat.{ℕ, _-_, _≤_, _<_};
 ghost use mathlib.Core.List.{List};
@@ -7,7 +8,7 @@ ghost use lib.ListN.{length, replicate};
 ghost use Rattle.lit.specs.Numbers as number;
 ghost use Rattle.lit.specs.Lits as lits;
 ghost use Rattle.trail.specs.Trail as spec;
-ghost use Rattle.trail.specs.Memory.{trailOf, Lengths, Room, Levelled};
+ghost use Rattle.trail.specs.Memory.{trailOf, Lengths, Room, RoomFor, Levelled};
 use lit::NONE;
 use lit::UNASSIGNED;
 
@@ -65,8 +66,7 @@ pub fn enq_assignment(
     code: u32,
     reason: u32,
 ) -> TrailState
-    requires { ⌜ Room (length (now values)) (trailOf (now values) (now levels) (now reasons) (now trail) (now opened) s) ⌝ }
-    requires { ⌜ (s .len < length (now values)) × (lits.index code < length (now values)) ⌝ }
+    requires { ⌜ RoomFor (length (now values)) (lits.index code) (trailOf (now values) (now levels) (now reasons) (now trail) (now opened) s) ⌝ }
     ensures { λ r. ⌜ trailOf (now (values .exit)) (now (levels .exit)) (now (reasons .exit)) (now (trail .exit)) (now (opened .entry)) r
         ≡ spec.enqAssignment code reason (trailOf (now (values .entry)) (now (levels .entry)) (now (reasons .entry)) (now (trail .entry)) (now (opened .entry)) s) ⌝ }
 {
@@ -94,8 +94,8 @@ pub fn enq_decision(
     v: u32,
     p: u8,
 ) -> TrailState
-    requires { ⌜ Room (length (now values)) (trailOf (now values) (now levels) (now reasons) (now trail) (now opened) s) ⌝ }
-    requires { ⌜ (s .len < length (now values)) × ((s .level < length (now values)) × ((v < length (now values)) × (p < 2))) ⌝ }
+    requires { ⌜ RoomFor (length (now values)) v (trailOf (now values) (now levels) (now reasons) (now trail) (now opened) s) ⌝ }
+    requires { ⌜ (s .level < length (now values)) × (p < 2) ⌝ }
     ensures { λ r. ⌜ trailOf (now (values .exit)) (now (levels .exit)) (now (reasons .entry)) (now (trail .exit)) (now (opened .exit)) r
         ≡ spec.enqDecision v p (trailOf (now (values .entry)) (now (levels .entry)) (now (reasons .entry)) (now (trail .entry)) (now (opened .entry)) s) ⌝ }
 {
@@ -238,7 +238,7 @@ pub fn learn_unit(
     code: u32,
 ) -> TrailState
     requires { ⌜ Levelled (length (now values)) (trailOf (now values) (now levels) (now reasons) (now trail) (now opened) s) ⌝ }
-    requires { ⌜ (spec.backtrackSafe 0 (trailOf (now values) (now levels) (now reasons) (now trail) (now opened) s) .len < length (now values)) × (lits.index code < length (now values)) ⌝ }
+    requires { ⌜ RoomFor (length (now values)) (lits.index code) (spec.backtrackSafe 0 (trailOf (now values) (now levels) (now reasons) (now trail) (now opened) s)) ⌝ }
     ensures { λ r. ⌜ trailOf (now (values .exit)) (now (levels .exit)) (now (reasons .exit)) (now (trail .exit)) (now (opened .exit)) r
         ≡ spec.learnUnit code (trailOf (now (values .entry)) (now (levels .entry)) (now (reasons .entry)) (now (trail .entry)) (now (opened .entry)) s) ⌝ }
 {

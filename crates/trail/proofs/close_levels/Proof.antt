@@ -1,10 +1,8 @@
 -- `trail::close_levels` meets its contract: closing the levels that are left leads where closing all of them leads from the start.
-use Prim.Native.Nat.{_≤_, _-_}
-use mathlib.Core.Path.{_≡_, refl, sym, _∙_}
-use native.Mathlib.Nat.{sub-zero}
+use Prim.Native.Nat.{_-_}
+use mathlib.Core.Path.{_≡_, refl}
 use native.Mathlib.Omega.{arith}
 use borrow.Author.Needs.{needs}
-use lib.ListN.{length}
 use Rattle.trail.specs.Trail.{closeLevels}
 use Rattle.trail.proofs.Going.{Closing, close-more}
 use Rattle.trail.proofs.close_levels.Statement.{statement}

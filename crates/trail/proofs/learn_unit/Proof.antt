@@ -1,9 +1,7 @@
--- `trail::learn_unit` meets its contract: going back keeps what the enqueue needs.
+-- `trail::learn_unit` meets its contract: the enqueue follows the going back.
 use mathlib.Core.Path.{ap, _∙_}
-use native.Mathlib.Omega.{arith}
-use Rattle.trail.specs.Trail.{Trail, enqAssignment, learnUnit}
+use Rattle.trail.specs.Trail.{enqAssignment, learnUnit}
 use Rattle.lit.specs.Numbers.{NONE}
-use Rattle.trail.proofs.Going.{back-room}
 use borrow.Author.Needs.{needs}
 use Rattle.trail.proofs.learn_unit.Statement.{statement}
 use Rattle.trail.proofs.learn_unit.Tie as tie
@@ -12,8 +10,8 @@ enq-assignment-requires : tie.Need-enq-assignment-requires
 enq-assignment-requires c κs =
     let b = c .before .before .before .before .before .before .before .before .before .before .before .before .before in
     let s = b .before .before .before .before .before .before .before .before .before .before .before in
-    let r = rw (← (b .backtrack-safe .ensures)) at (back-room 0 (s .pre .0 .room)) in
-    rw (r .lengths .values-long) (r, (rw (ap (λ (t : Trail). t .len) (b .backtrack-safe .ensures)) (s .pre .1 .0), s .pre .1 .1))
+    let r = rw (← (b .backtrack-safe .ensures)) at (s .pre .1) in
+    rw (r .room .lengths .values-long) r
 
 returns : tie.Need-returns
 unfolding learnUnit

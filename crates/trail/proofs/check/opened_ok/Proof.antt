@@ -1,9 +1,8 @@
 -- `trail::check::opened_ok` meets its contract: the levels passed so far pass the test.
 use Prim.Native.Nat.{_-_}
-use mathlib.Core.Path.{_≡_, refl, sym, _∙_}
+use mathlib.Core.Path.{sym, _∙_}
 use native.Mathlib.Omega.{arith}
 use borrow.Author.Needs.{needs}
-use lib.ListN.{length}
 use borrow.Author.Tests.{not-true, not-false}
 use Rattle.laws.specs.Every.{Passed, passed-none, passed-more, passed-all, passed-fails}
 use Rattle.trail.specs.Check.{levelOk, openedOk}

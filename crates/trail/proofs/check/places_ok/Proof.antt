@@ -1,11 +1,10 @@
 -- `trail::check::places_ok` meets its contract: the places passed so far pass the test, and their variables are marked.
-use Prim.Native.Nat.{_-_, _<_}
+use Prim.Native.Nat.{_-_}
 use mathlib.Core.Path.{_≡_, refl, sym, _∙_}
 use mathlib.Core.Bool.{true, false≢true}
 use native.Mathlib.Omega.{arith}
 use borrow.Author.Needs.{needs}
 use borrow.Author.Tests.{not-true, not-false}
-use lib.ListN.{length, getD, length-set}
 use Rattle.laws.specs.Every.{passed-none, passed-all, passed-fails}
 use Rattle.trail.specs.Check.{placeOk, placesOk}
 use Rattle.trail.proofs.Marks.{Marking, at-place, place-var, mark-place}
