@@ -1,19 +1,17 @@
 -- Activities at most 1e101 and a step at most 1e200 stay so: through a bump with its scaling, and through a decay that is not refused.
 -- Each bound is one computed fact on the constants, carried by monotone rounding. Assumes nothing.
-use mathlib.Core.Path.{_≡_, refl, sym, ap, _∙_, subst}
+use mathlib.Core.Path.{_≡_, refl, sym, subst}
 use mathlib.Core.Bool.{Bool, true, false, not, _&&_, _||_, false≢true, and-false}
-use Prim.Native.Nat.{ℕ, zero, suc, _+_, _*_, _<_}
-use native.Mathlib.Nat.{mul-pos, zero-lt-suc}
+use Prim.Native.Nat.{_+_, _*_, _<_}
 use native.Mathlib.Omega.{arith}
 use borrow.Author.Tests.{not-false, lt-ltb, ne-eqb}
-use lib.IntN.{ℤ}
-use lib.Dec.{T, eqb}
+use lib.Dec.{T}
 use lib.Ieee.{Float, nan, inf, fin, ofBits, binary64, add, mul, div, le, lt, up, down, isNan, fits}
 use lib.Ieee.Bits.{is-true}
 use lib.Ieee.Fits.{down-pos}
 use lib.Ieee.Positive.{positive}
 use Rattle.laws.specs.Tests.{and-left, and-right}
-use Rattle.activity.specs.Doubles.{zeroActivity, freshInc, freshDecay, one, limit, shrink, maxActivity, maxInc, minDecay, maxDecay}
+use Rattle.activity.specs.Doubles.{zeroActivity, one, limit, shrink, maxActivity, maxInc, minDecay, maxDecay}
 use Rattle.activity.specs.declared.Step.{Step}
 use Rattle.activity.specs.Step.{freshStep, decayed, decayedInc, withDecay, scale, scaled, goodDecay, badDecay, largeStep, upright, within, goodStep}
 use Rattle.activity.specs.Upright.{Finite, number, Upright, finite, infinite, Positive, finite-of, upright-of, positive-of, upright-of-le, positive-of-le, under, le-refl, le-trans, lt-is, lt-false}

@@ -1,10 +1,10 @@
 -- Cases H and I of document 01, computed.
 use mathlib.Core.Path.{_≡_, refl}
 use mathlib.Core.Bool.{true, false}
-use lib.Ieee.{Float, ofBits, binary64, mul, div, le, lt}
+use lib.Ieee.{Float, ofBits, binary64, mul, div, lt}
 use Rattle.activity.specs.Doubles.{freshInc, maxInc, minDecay, maxDecay}
 use Rattle.activity.specs.declared.Step.{Step}
-use Rattle.activity.specs.Step.{freshStep, decayed, withDecay, badDecay, largeStep}
+use Rattle.activity.specs.Step.{freshStep, decayed, withDecay, largeStep}
 
 -- a step of x with the decay d
 abbrev stepOf : Float → Float → Step

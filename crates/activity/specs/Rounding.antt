@@ -8,7 +8,7 @@ use native.Mathlib.Omega.{arith}
 use lib.IntN.{ℤ, pos, negsuc}
 use lib.Dec.{T, ltb, eqb, leb, ltb→lt, leb→le, eqb·suc-zero}
 use lib.Pow.{pow-pos, pow-add, pow-lt, pow-mono, shl-lt}
-use lib.Ieee.{Float, nan, inf, fin, Format, prec, emax, low, up, down, odd, units, round, sum, add, mul, div, le, fits}
+use lib.Ieee.{Float, inf, fin, Format, prec, emax, low, up, down, odd, units, round, sum, add, mul, div, le, fits}
 use lib.Ieee.Fits.{up-pos, down-pos, and-l, and-r, round-is, reach}
 use lib.Ieee.Exact.{HasValue, round-exact}
 use lib.Ieee.Order.{le-of-values, round-mono}
