@@ -12,9 +12,9 @@ use borrow.Author.Tests.{eqb-true, eqb-false}
 use Rattle.laws.specs.Tests.{cond-elim}
 use Rattle.laws.specs.Lists.{set-cases}
 use Rattle.lit.specs.Numbers.{NONE}
-use Rattle.vmtf.specs.Vmtf.{Vmtf, maxStamp, first, renumber, rescore, relink, tick, moveToFront, moveAll, insertByStamp, byStamp, bumpVecOfVars, Chain}
+use Rattle.vmtf.specs.Vmtf.{Vmtf, maxStamp, first, renumber, rescore, relink, tick, moveToFront, moveAll, insertByStamp, byStamp, bumpVecOfVars, Chain, Vars}
 use Rattle.vmtf.specs.Laws.{renumber-none, renumber-step, length-renumber}
-use Rattle.vmtf.specs.Order.{count, remove, toFront, allToFront, after, before, count-here, count-there, count-more, count-head, count-cons, count-swap, remove-count-same, front-count, first-remove, front-front, after-here, after-there, before-here, before-there, after-in, before-some, before-first, before-other, after-self, after-before, before-after, after-cut, after-kept, before-cut, before-kept}
+use Rattle.vmtf.specs.Order.{count, remove, toFront, allToFront, at-every, after, before, count-here, count-there, count-more, count-head, count-cons, count-swap, remove-count-same, front-count, first-remove, front-front, after-here, after-there, before-here, before-there, after-in, before-some, before-first, before-other, after-self, after-before, before-after, after-cut, after-kept, before-cut, before-kept}
 use Rattle.vmtf.specs.Good.{Falls, Linked, GoodList, beside-row, falls-weaken, falls-frame, order-length, in-order, at-most, next-is, prev-is, few, chain, start-in}
 
 module _ {n : ℕ} {order : List ℕ} {l : Vmtf} (k : Linked n order l) (v : ℕ) (v-in : v < n) (back : v ≢ l .start) where
@@ -197,6 +197,23 @@ module _ (ts : List ℕ) where
   sort-count w (v ∷ vs) = insert-count v w (byStamp ts vs) ∙ count-cons w v (byStamp ts vs) vs (sort-count w vs)
 
 -- a group takes its variables to the front in turn, the lowest stamp first
-pub group-good : {n : ℕ} (vs : List ℕ) {order : List ℕ} {l : Vmtf} → ((v : ℕ) → 0 < count v vs → v < n) → GoodList n order l → GoodList n (allToFront (byStamp (l .ts) vs) order) (bumpVecOfVars vs l)
+pub group-good : {n : ℕ} (vs : List ℕ) {order : List ℕ} {l : Vmtf} → Vars n vs → GoodList n order l → GoodList n (allToFront (byStamp (l .ts) vs) order) (bumpVecOfVars vs l)
 unfolding bumpVecOfVars
-group-good vs {order} {l} h g = moves-good (byStamp (l .ts) vs) (λ v k. h v (rw (sort-count (l .ts) v vs) at k)) g
+group-good {n} vs {order} {l} h g = moves-good (byStamp (l .ts) vs) (λ v k. at-every (λ u. u < n) vs h v (rw (sort-count (l .ts) v vs) at k)) g
+
+-- ---- search stays where it is
+
+pub move-search : (v : ℕ) (l : Vmtf) → moveToFront v l .search ≡ l .search
+unfolding moveToFront tick relink rescore
+move-search v l =
+    cond-elim (λ (m : Vmtf). m .search ≡ l .search) (eqb v (l .start)) (λ _. refl)
+    (λ _. cond-elim (λ (m : Vmtf). m .search ≡ l .search) (eqb (l .timestamp) maxStamp) (λ _. refl) (λ _. refl))
+
+moves-search : (vs : List ℕ) (l : Vmtf) → moveAll vs l .search ≡ l .search
+unfolding moveAll
+moves-search [] l = refl
+moves-search (v ∷ vs) l = moves-search vs (moveToFront v l) ∙ move-search v l
+
+pub group-search : (vs : List ℕ) (l : Vmtf) → bumpVecOfVars vs l .search ≡ l .search
+unfolding bumpVecOfVars
+group-search vs l = moves-search (byStamp (l .ts) vs) l

@@ -103,7 +103,7 @@ pub fn new(
 }
 
 // Whether the variable may be decided: it is unassigned.
-pub fn is_open(values: &[u8], v: u32) -> bool
+fn is_open(values: &[u8], v: u32) -> bool
     requires { ⌜ v < length (now values) ⌝ }
     ensures { λ r. ⌜ r ≡ spec.isOpen (now (values .entry)) v ⌝ }
 {
@@ -128,12 +128,12 @@ fn renumber(next: &[u32], ts: &mut [u64], start: u32)
 }
 
 // Stamps the whole list anew, so that stamps are small again. It leaves the links before a variable, whatever they are.
-pub fn rescore(next: &[u32], ts: &mut [u64], s: VmtfState) -> VmtfState
+fn rescore(next: &[u32], ts: &mut [u64], s: VmtfState) -> VmtfState
     requires { ⌜ Links (length (now ts)) (now next) (s .start) ⌝ }
     ensures { λ r. ⌜ ((prev : List ℕ) → vmtfOf (now (next .entry)) prev (now (ts .exit)) r ≡ spec.rescore (vmtfOf (now (next .entry)) prev (now (ts .entry)) s)) ⌝ }
 {
-    let mut scored = s;
     renumber(next, ts, s.start);
+    let mut scored = s;
     scored.timestamp = next.len() as u64 + 1;
     scored
 }
@@ -175,7 +175,7 @@ fn tick(next: &[u32], ts: &mut [u64], s: VmtfState) -> VmtfState
 }
 
 // Moves a variable to the front with a new stamp, unless it is there.
-pub fn move_to_front(
+fn move_to_front(
     next: &mut [u32],
     prev: &mut [u32],
     ts: &mut [u64],
@@ -239,7 +239,7 @@ pub fn bump_vec_of_vars(
     r
 }
 
-// The first open variable along the next links from curr on, or NONE.
+// The first open variable along the next links from search on, or NONE.
 fn first_open(next: &[u32], values: &[u8], search: u32) -> u32
     requires { ⌜ Ends (now next) search ⌝ }
     requires { ⌜ length (now values) ≡ length (now next) ⌝ }
@@ -326,7 +326,7 @@ fn check_row(next: &[u32], prev: &[u32], ts: &[u64], s: VmtfState) -> bool
     curr == NONE
 }
 
-// Whether a lent list is good.
+// Whether a lent list is good: all variables stand in it, and search is a variable or NONE.
 pub fn check_list(next: &[u32], prev: &[u32], ts: &[u64], s: VmtfState) -> bool
     requires { ⌜ (length (now prev) ≡ length (now next)) × (length (now ts) ≡ length (now next)) ⌝ }
     ensures { λ r. ⌜ r ≡ spec.checkList (vmtfOf (now (next .entry)) (now (prev .entry)) (now (ts .entry)) s) ⌝ }
