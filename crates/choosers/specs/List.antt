@@ -1,12 +1,10 @@
 -- The list chooser, as the book sees it: the operations of `VMTF`, and that they keep the laws. Only a group moves the list; switching,
 -- bumping, decaying and inserting change nothing.
-use Prim.Native.Nat.{ℕ, _≤_, _<_}
+use Prim.Native.Nat.{ℕ, zero, suc, _≤_, _<_}
 use mathlib.Core.Path.{_≡_, refl, sym, _∙_}
 use mathlib.Core.Bool.{Bool, true, false, _&&_}
 use mathlib.Core.Option.{Option, some}
 use mathlib.Core.List.{List, [], _∷_}
-use mathlib.Core.Logic.{by-cases}
-use native.Mathlib.Decide.{ℕ-discrete}
 use native.Mathlib.Omega.{arith}
 use borrow.Author.Tests.{ltb-true}
 use lib.Dec.{ltb}
@@ -16,10 +14,9 @@ use Rattle.lit.specs.Numbers.{NONE, unassigned}
 use Rattle.lit.specs.Lits.{isAssigned}
 use Rattle.vmtf.specs.declared.Next.the-variants as found
 use Rattle.vmtf.specs.declared.Next as code
-use Rattle.vmtf.specs.Vmtf.{Vmtf, vmtfOf, litOrder}
+use Rattle.vmtf.specs.Vmtf.{Vmtf, vmtfOf, litOrder, Vars}
 use Rattle.vmtf.specs.Vmtf as vmtf
 use Rattle.vmtf.specs.Good.{GoodList}
-use Rattle.vmtf.specs.Order.{count, count-nil, count-there}
 use Rattle.vmtf.specs.Moves.{group-good}
 use Rattle.vmtf.specs.Fresh.{new-good}
 use Rattle.vmtf.specs.Choice.{NextIs, next-right}
@@ -58,13 +55,11 @@ pub record ListOk (n : ℕ) (values : List ℕ) (on : ℕ → Bool) (l : Vmtf) :
   pub order : List ℕ
   pub good : GoodList n order l
 
-below-each : (n : ℕ) (vs : List ℕ) → below n vs ≡ true → (v : ℕ) → 0 < count v vs → v < n
+below-each : (n : ℕ) (vs : List ℕ) → below n vs ≡ true → Vars n vs
 unfolding below
-below-each n [] e v h = absurd (omega (arith, count-nil v))
-below-each n (x ∷ vs) e v h =
-    by-cases (ℕ-discrete x v)
-    (λ here. rw here at (ltb-true x n (and-left (ltb x n) (below n vs) e)))
-    (λ there. below-each n vs (and-right (ltb x n) (below n vs) e) v (rw (count-there v x vs there) at h))
+below-each n [] e i h = absurd (omega arith)
+below-each n (x ∷ vs) e zero h = ltb-true x n (and-left (ltb x n) (below n vs) e)
+below-each n (x ∷ vs) e (suc i) h = below-each n vs (and-right (ltb x n) (below n vs) e) i (omega arith)
 
 next-ok : (n : ℕ) (values : List ℕ) (on : ℕ → Bool) (order : List ℕ) (l : Vmtf) → length values ≡ n → ((v : ℕ) → on v ≡ true) → GoodList n order l
     → (r : code.Next) → NextIs n order values l r → NextRight n values on (ListOk n) (nextOf l r)

@@ -1,21 +1,30 @@
--- A list whose front has been replaced, as a slice is after `&mut a[..n]` was lent: what stands where. Assumes nothing.
+-- Lists put together from parts, as a slice's is when `&mut a[..n]` or `&mut a[n..]` was lent: how long it is and what stands where. Assumes nothing.
 use mathlib.Core.Path.{_≡_, ap, sym, subst, _∙_}
-use mathlib.Core.List.{List, _++_}
+use mathlib.Core.List.{List, _++_, append-nil}
 use Prim.Native.Nat.{ℕ, _+_, _-_, _<_, _≤_}
 use native.Mathlib.Omega.{arith}
-use lib.ListN.{length, getD, drop, length-append, length-drop, List·getD-append}
-use lib.Seq.{getD-drop, getD-append-add}
+use lib.ListN.{length, getD, take, drop, length-append, length-drop, drop-of-length-le, List·getD-append}
+use lib.Seq.{getD-drop, getD-append-add, take-all, take-at, drop-at}
 
-module _ {A : Type 0} (p l : List A) (n : ℕ) (e : length p ≡ n) where
-  pub front-long : n ≤ length l → length (p ++ drop n l) ≡ length l
-  front-long q = simp (length-append, length-drop) (omega arith)
+-- a first part p of n elements
+module _ {A : Type 0} (p : List A) (n : ℕ) (e : length p ≡ n) where
+  pub first-at : (r : List A) (i : ℕ) (d : A) → i < n → getD (p ++ r) i d ≡ getD p i d
+  first-at r i d q = List·getD-append p r d i (omega arith)
 
-  pub front-at : (i : ℕ) (d : A) → i < n → getD (p ++ drop n l) i d ≡ getD p i d
-  front-at i d q = List·getD-append p (drop n l) d i (omega arith)
-
-  -- behind the front nothing has changed
-  pub behind-at : (j : ℕ) (d : A) → n ≤ j → getD (p ++ drop n l) j d ≡ getD l j d
-  behind-at j d q =
+  pub second-at : (r : List A) (j : ℕ) (d : A) → n ≤ j → getD (p ++ r) j d ≡ getD r (j - n) d
+  second-at r j d q =
       let s : j ≡ length p + (j - n) = omega arith in
-      let t : n + (j - n) ≡ j = omega arith in
-      subst (λ (k : ℕ). getD (p ++ drop n l) k d ≡ getD l j d) (sym s) (getD-append-add p (drop n l) (j - n) d ∙ getD-drop n l (j - n) d ∙ ap (λ (k : ℕ). getD l k d) t)
+      subst (λ (k : ℕ). getD (p ++ r) k d ≡ getD r (j - n) d) (sym s) (getD-append-add p r (j - n) d)
+
+  -- behind `&mut a[..n]` nothing has changed
+  pub behind-at : (l : List A) (j : ℕ) (d : A) → n ≤ j → getD (p ++ drop n l) j d ≡ getD l j d
+  behind-at l j d q = let t : n + (j - n) ≡ j = omega arith in second-at (drop n l) j d q ∙ getD-drop n l (j - n) d ∙ ap (λ (k : ℕ). getD l k d) t
+
+  -- what `&mut a[n..]` lends then, and what a is once it has come back as r
+  pub back-part : (l : List A) → take (length (p ++ drop n l) - n) (drop n (p ++ drop n l)) ≡ drop n l
+  back-part l = rw (drop-at p (drop n l) n e) (take-all (length (p ++ drop n l) - n) (drop n l) (simp length-append (omega arith)))
+
+  pub back-put : (l r : List A) → take n (p ++ drop n l) ++ (r ++ drop (length (p ++ drop n l) - n) (drop n (p ++ drop n l))) ≡ p ++ r
+  back-put l r =
+      let none : length (drop n l) ≤ length (p ++ drop n l) - n = simp length-append (omega arith) in
+      rw (take-at p (drop n l) n e, drop-at p (drop n l) n e, drop-of-length-le (drop n l) none) (ap (λ (z : List A). p ++ z) (append-nil r))

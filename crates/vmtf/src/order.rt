@@ -6,8 +6,8 @@ ghost use Rattle.laws.specs.InPlace.{upTo};
 ghost use Rattle.lit.specs.Numbers.{NONE as none};
 ghost use Rattle.vmtf.specs.Vmtf as spec;
 ghost use Rattle.vmtf.specs.Vmtf.{Vars, Group, Literals, Scratch};
+use group_sort::sort_by_stamp;
 use lit::index;
-use util::sort_by_stamp;
 use util::sort_reverse;
 
 // Sets every element to x.
