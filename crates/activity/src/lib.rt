@@ -9,6 +9,9 @@ pub const FRESH_INC: f64 = 1.0;
 
 pub const FRESH_DECAY: f64 = 0.95;
 
+// The dividend of a decay's quotient.
+pub const ONE: f64 = 1.0;
+
 // Above the limit every activity and the step are multiplied by 1e-100.
 pub const LIMIT: f64 = 1e100;
 
@@ -46,7 +49,7 @@ impl Step {
         ensures { λ r. ⌜ r ≡ spec.decayed self ⌝ }
     {
         Step {
-            inc: self.inc * (1.0 / self.decay),
+            inc: self.inc * (ONE / self.decay),
             decay: self.decay,
         }
     }
@@ -73,7 +76,8 @@ impl Step {
     pub fn large_step(self) -> bool
         ensures { λ r. ⌜ r ≡ spec.largeStep self ⌝ }
     {
-        self.inc * (1.0 / self.decay) > MAX_INC
+        let next = self.decayed();
+        next.inc > MAX_INC
     }
 }
 
