@@ -1,8 +1,8 @@
 -- A good list: the facts that document 01 states of the move-to-front list, over the plain order of its variables.
--- Definitions to believe: `Row`, `Falls`, `Linked`, `GoodList`. The rest are laws. Assumes nothing.
+-- Definitions to believe: `Row`, `Falls`, `Linked`, `GoodList`, `Good`. The rest are laws. Assumes nothing.
 use Prim.Native.Nat.{ℕ, zero, suc, _+_, _-_, _<_, _≤_}
 use mathlib.Core.Path.{_≡_, refl, sym, ap, _∙_}
-use mathlib.Core.Logic.{_≢_, by-cases}
+use mathlib.Core.Logic.{_≢_, _↔_, by-cases}
 use mathlib.Core.List.{List, [], _∷_}
 use native.Mathlib.Omega.{arith}
 use native.Mathlib.Decide.{ℕ-discrete, decLt}
@@ -10,7 +10,7 @@ use lib.ListN.{length, getD}
 use Rattle.lit.specs.Numbers.{NONE}
 use Rattle.vmtf.specs.Vmtf.{Vmtf, first, from, Safe, Chain, Ends}
 use Rattle.vmtf.specs.Laws.{chain-from}
-use Rattle.vmtf.specs.Order.{count, after, before, count-here, count-there, count-more, count-head, count-nil, after-here, after-there, before-here, before-there, after-in, before-some, first-in, first-var}
+use Rattle.vmtf.specs.Order.{count, after, before, count-here, count-there, count-more, count-head, count-nil, after-here, after-there, before-here, before-there, after-in, before-some, first-in, first-var, after-before, before-after}
 
 -- vs stand in a row after p: the links of each agree with the one before it and the one after it, NONE after the last
 unfoldable pub Row : List ℕ → List ℕ → ℕ → List ℕ → Type 0
@@ -41,6 +41,10 @@ pub record GoodList (n : ℕ) (order : List ℕ) (l : Vmtf) : Type 0 where
   pub falls : Falls (l .ts) (l .timestamp) order
   -- search is a variable or NONE
   pub search-in : l .search ≢ NONE → l .search < n
+
+-- good, in some order: the links tell which (`order-is`)
+abbrev pub Good : ℕ → Vmtf → Type 0
+Good n l = (order : List ℕ) × GoodList n order l
 
 -- ---- counting
 
@@ -208,6 +212,15 @@ module _ {n : ℕ} {order : List ℕ} {l : Vmtf} (k : Linked n order l) where
 
   pub prev-is : (v : ℕ) → v < n → getD (l .prev) v 0 ≡ before NONE v order
   prev-is v h = row-beside (l .next) (l .prev) NONE order (k .row) v (in-order v h) .1
+
+  -- links agree both ways
+  pub links-agree : (v w : ℕ) → v < n → w < n → (getD (l .next) v 0 ≡ w) ↔ (getD (l .prev) w 0 ≡ v)
+  links-agree v w hv hw =
+      let dv : v ≢ NONE = λ e. omega (arith, k .small) in
+      let dw : w ≢ NONE = λ e. omega (arith, k .small) in (
+        λ e. prev-is w hw ∙ after-before v w NONE order dw (at-most w) (sym (next-is v hv) ∙ e),
+        λ e. next-is v hv ∙ before-after v w NONE order dv dv (at-most v) (sym (prev-is w hw) ∙ e),
+      )
 
   pub few : length (l .next) ≤ NONE
   few = omega (arith, k .next-long, k .small)
