@@ -4,3 +4,4 @@ pub mod Going
 pub mod Unit
 pub mod Needed
 pub mod Outcomes
+pub mod Entering

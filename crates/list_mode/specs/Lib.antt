@@ -1,3 +1,7 @@
 -- A session in list mode: its memory as the book's session, and when it is good.
 pub mod Memory
 pub mod Good
+pub mod Entry
+pub mod Kept
+pub mod Keeping
+pub mod Term3

@@ -27,6 +27,8 @@ use trail::TrailState;
 use vmtf::Next;
 use vmtf::VmtfState;
 
+pub mod entry;
+
 // The small states of the trail and of the list.
 pub struct ListState {
     pub trail: TrailState,
