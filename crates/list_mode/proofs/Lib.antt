@@ -4,4 +4,3 @@ pub mod Going
 pub mod Unit
 pub mod Needed
 pub mod Outcomes
-pub mod Entering

@@ -19,7 +19,7 @@ use Rattle.book.specs.Calls.{Call, bump, decay, setDecay, insert, switchOff, de
 use Rattle.book.specs.Chooser.{below, goodReason, goodDecay}
 use Rattle.book.specs.Session.{Session, done, need, tuned, decided, enqueued, call}
 use Rattle.calls.specs.Entry.{Answered}
-use Rattle.list_mode.specs.Keeping.{went}
+use Rattle.list_mode.specs.Kept.{went}
 
 -- a call that changes nothing, by its test
 tested : {S : Type 0} (s : S) (b : Bool) (k : ℕ) → Answered (need b k (done none s)) s (cond b 0 k) NONE s

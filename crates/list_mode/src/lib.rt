@@ -27,8 +27,6 @@ use trail::TrailState;
 use vmtf::Next;
 use vmtf::VmtfState;
 
-pub mod entry;
-
 // The small states of the trail and of the list.
 pub struct ListState {
     pub trail: TrailState,
@@ -42,7 +40,8 @@ pub struct ListAnswer {
     pub state: ListState,
 }
 
-fn accept(reply: u32, s: ListState) -> ListAnswer
+// Status 0 with a reply.
+pub fn accept(reply: u32, s: ListState) -> ListAnswer
     ensures { λ r. ⌜ r ≡ answer 0 reply s ⌝ }
 {
     ListAnswer {
@@ -52,7 +51,8 @@ fn accept(reply: u32, s: ListState) -> ListAnswer
     }
 }
 
-fn refuse(status: u32, s: ListState) -> ListAnswer
+// A refusal, with reply NONE.
+pub fn refuse(status: u32, s: ListState) -> ListAnswer
     ensures { λ r. ⌜ r ≡ answer status number.NONE s ⌝ }
 {
     ListAnswer {

@@ -5,7 +5,7 @@ use mathlib.Core.Path.{sym, _∙_}
 use native.Mathlib.Omega.{arith}
 use borrow.Author.Tests.{not-true, not-false}
 use Rattle.trail.specs.Laws.{room-for, room}
-use Rattle.list_mode.specs.Keeping.{free}
+use Rattle.list_mode.specs.Kept.{free}
 use Rattle.list_mode.proofs.Outcomes.{no-variable, no-reason, not-free, put}
 use borrow.Author.Needs.{needs}
 use Rattle.list_mode.proofs.enqueue.Statement.{statement}

@@ -5,7 +5,7 @@ use borrow.Author.Tests.{not-true, not-false}
 use lib.ListN.{replicate}
 use Rattle.vmtf.specs.Good.{good-safe}
 use Rattle.vmtf.specs.Sort.{group-apart}
-use Rattle.list_mode.specs.Keeping.{below-at}
+use Rattle.list_mode.specs.Kept.{below-at}
 use Rattle.list_mode.proofs.Outcomes.{no-group, moved}
 use borrow.Author.Needs.{needs}
 use Rattle.list_mode.proofs.group.Statement.{statement}

@@ -5,7 +5,7 @@ use mathlib.Core.Path.{sym, _∙_}
 use native.Mathlib.Omega.{arith}
 use Rattle.trail.specs.Laws.{room-for, levelled}
 use Rattle.trail.specs.Back.{back-good}
-use Rattle.list_mode.specs.Keeping.{free}
+use Rattle.list_mode.specs.Kept.{free}
 use Rattle.list_mode.proofs.Unit.{stays-assigned}
 use Rattle.list_mode.proofs.Outcomes.{no-unit, held, learnt}
 use borrow.Author.Needs.{needs}

@@ -1,12 +1,12 @@
--- `list_mode::entry::enter` meets its contract: a refusal is the answer; without one the memory is good, and the step answers.
+-- `list_entry::enter` meets its contract: a refusal is the answer; without one the memory is good, and the step answers.
 use mathlib.Core.Path.{sym, _∙_}
 use borrow.Author.Tests.{ne-eqb}
-use Rattle.list_mode.specs.Entry.{entered}
-use Rattle.list_mode.specs.Kept.{sizes-right, state-right}
-use Rattle.list_mode.proofs.Entering.{refused, state-passed, accepted, left}
+use Rattle.list_entry.specs.Entry.{entered}
+use Rattle.list_entry.specs.Checked.{sizes-right, state-right}
+use Rattle.list_entry.proofs.Entering.{refused, state-passed, accepted, left}
 use borrow.Author.Needs.{needs}
-use Rattle.list_mode.proofs.entry.enter.Statement.{statement}
-use Rattle.list_mode.proofs.entry.enter.Tie as tie
+use Rattle.list_entry.proofs.enter.Statement.{statement}
+use Rattle.list_entry.proofs.enter.Tie as tie
 
 returns : tie.Need-returns
 unfolding entered

@@ -1,13 +1,13 @@
--- `list_mode::entry::refusal` meets its contract: the state is checked where the sizes are right.
+-- `list_entry::refusal` meets its contract: the state is checked where the sizes are right.
 use mathlib.Core.Path.{sym, _∙_}
 use borrow.Author.Tests.{not-true, not-false}
 use Rattle.book.specs.Session.{need}
 use Rattle.calls.specs.Entry.{checked}
-use Rattle.list_mode.specs.Kept.{sizes-right}
-use Rattle.list_mode.proofs.Entering.{size-refused, size-passed, size-accepted}
+use Rattle.list_entry.specs.Checked.{sizes-right}
+use Rattle.list_entry.proofs.Entering.{size-refused, size-passed, size-accepted}
 use borrow.Author.Needs.{needs}
-use Rattle.list_mode.proofs.entry.refusal.Statement.{statement}
-use Rattle.list_mode.proofs.entry.refusal.Tie as tie
+use Rattle.list_entry.proofs.refusal.Statement.{statement}
+use Rattle.list_entry.proofs.refusal.Tie as tie
 
 returns : tie.Need-returns
 unfolding checked

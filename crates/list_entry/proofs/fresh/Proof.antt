@@ -1,4 +1,4 @@
--- `list_mode::entry::fresh` meets its contract: a refusal is the answer; without one the slices have the lengths that creation needs.
+-- `list_entry::fresh` meets its contract: a refusal is the answer; without one the slices have the lengths that creation needs.
 use mathlib.Core.Path.{refl, sym, ap, _∙_}
 use native.Mathlib.Omega.{arith}
 use borrow.Author.Tests.{ne-eqb}
@@ -6,13 +6,13 @@ use lib.ListN.{replicate}
 use Rattle.formula.specs.Good.{clauses-facts}
 use Rattle.trail.specs.Trail.{freshTrail}
 use Rattle.vmtf.specs.Vmtf as vmtf
 use Rattle.list_mode.specs.Memory.{sessionOf}
-use Rattle.list_mode.specs.Entry.{made, blank}
-use Rattle.list_mode.specs.Kept.{sizes-right}
-use Rattle.list_mode.proofs.Entering.{size-refused, size-passed, size-accepted, opened}
+use Rattle.list_entry.specs.Entry.{made, blank}
+use Rattle.list_entry.specs.Checked.{sizes-right}
+use Rattle.list_entry.proofs.Entering.{size-refused, size-passed, size-accepted, opened}
 use borrow.Author.Needs.{needs}
-use Rattle.list_mode.proofs.entry.fresh.Statement.{statement}
-use Rattle.list_mode.proofs.entry.fresh.Tie as tie
+use Rattle.list_entry.proofs.fresh.Statement.{statement}
+use Rattle.list_entry.proofs.fresh.Tie as tie
 
 returns : tie.Need-returns
 unfolding made

@@ -15,8 +15,8 @@ use Rattle.choosers.specs.List.{listOps}
 use Rattle.calls.specs.declared.Call as code
 use Rattle.calls.specs.declared.Call.the-variants as variant
 use Rattle.calls.specs.Entry.{sizesChecked, checked, Answered}
 use Rattle.list_mode.specs.Memory.{cleared, clears}
-use Rattle.list_mode.specs.Entry.{sizeRefusal, stateRefusal}
+use Rattle.list_entry.specs.Entry.{sizeRefusal, stateRefusal}
 
 module _ {S : Type 0} (n : ℕ) (x : Result S) (s : S) where
   -- a refusal of the sizes is the answer

@@ -1,7 +1,7 @@
--- `list_mode::entry::list_lengths` meets its contract: by its tests.
+-- `list_entry::list_lengths` meets its contract: by its tests.
 use borrow.Author.Tests.{eq-eqb, ne-eqb}
-use Rattle.list_mode.proofs.entry.list_lengths.Statement.{statement}
-use Rattle.list_mode.proofs.entry.list_lengths.Tie as tie
+use Rattle.list_entry.proofs.list_lengths.Statement.{statement}
+use Rattle.list_entry.proofs.list_lengths.Tie as tie
 
 returns : tie.Need-returns
 returns c = λ s. rw (eq-eqb _ _ (c .before .if1 .taken), eq-eqb _ _ (c .if2 .taken))

@@ -1,12 +1,12 @@
--- `list_mode::entry::size_refusal` meets its contract: by the tests in document 01's order.
+-- `list_entry::size_refusal` meets its contract: by the tests in document 01's order.
 use mathlib.Core.Path.{sym, _∙_}
 use borrow.Author.Tests.{lt-leb, le-leb, eq-eqb, ne-eqb, not-true, not-false}
 use Rattle.book.specs.Session.{need}
 use Rattle.calls.specs.Entry.{sizesChecked}
-use Rattle.list_mode.specs.Entry.{lengthsOk}
+use Rattle.list_entry.specs.Entry.{lengthsOk}
 use borrow.Author.Needs.{needs}
-use Rattle.list_mode.proofs.entry.size_refusal.Statement.{statement}
-use Rattle.list_mode.proofs.entry.size_refusal.Tie as tie
+use Rattle.list_entry.proofs.size_refusal.Statement.{statement}
+use Rattle.list_entry.proofs.size_refusal.Tie as tie
 
 returns : tie.Need-returns
 unfolding sizesChecked need lengthsOk
