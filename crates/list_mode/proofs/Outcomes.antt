@@ -16,7 +16,8 @@ use Rattle.vmtf.specs.declared.VmtfState.{VmtfState}
 use Rattle.vmtf.specs.Vmtf.{Vmtf, vmtfOf, getNext, bumpVecOfVars}
 use Rattle.choosers.specs.List.{listOps}
 use Rattle.book.specs.Calls.{Call, bump, decay, setDecay, insert, switchOff, decide, enqueue, learnUnit, goBack, bumpReason, group}
-use Rattle.book.specs.Chooser.{below, goodReason, goodDecay}
+use Rattle.activity.specs.Step.{goodDecay}
+use Rattle.book.specs.Chooser.{below, goodReason}
 use Rattle.book.specs.Session.{Session, done, need, tuned, decided, enqueued, call}
 use Rattle.calls.specs.Entry.{Answered}
 use Rattle.list_mode.specs.Kept.{went}

@@ -22,7 +22,6 @@ use Rattle.vmtf.specs.declared.Next.the-variants as found
 use Rattle.vmtf.specs.Vmtf as vmtf
 use Rattle.vmtf.specs.Vmtf.{Vmtf}
 use Rattle.vmtf.specs.Good.{GoodList}
-use Rattle.vmtf.specs.Order.{at-every}
 use Rattle.vmtf.specs.Moves.{group-good}
 use Rattle.vmtf.specs.Fresh.{new-good}
 use Rattle.vmtf.specs.Choice.{NextIs, next-right}
@@ -116,5 +115,5 @@ module _ (n m : ℕ) (lits : List ℕ) where
     kept (group vs) = needed (below n vs) _ _ (λ h. record {
       small = g .small;
       trail = g .trail;
-      list = (_, group-good vs (at-every (λ (v : ℕ). v < n) vs (below-at n vs h)) (g .list .1));
+      list = (_, group-good vs (below-at n vs h) (g .list .1));
     })

@@ -11,10 +11,10 @@ ghost use Rattle.trail.specs.Memory.{trailOf, Levelled};
 ghost use Rattle.trail.specs.Good.{GoodTrail};
 ghost use Rattle.vmtf.specs.Vmtf.{vmtfOf};
 ghost use Rattle.book.specs.Calls as book;
-ghost use Rattle.book.specs.Chooser.{goodDecay};
 ghost use Rattle.calls.specs.Calls.{callOf};
 ghost use Rattle.list_mode.specs.Memory.{sessionOf, answer, Answers, cleared, clears};
 ghost use Rattle.list_mode.specs.Good.{InOrder, GoodSession, Choosable};
+use activity::good_decay;
 use calls::Call;
 use lit::ASSIGNED;
 use lit::BAD_DECAY;
@@ -70,13 +70,6 @@ fn tested(ok: bool, status: u32, s: ListState) -> ListAnswer
         return accept(NONE, s);
     }
     refuse(status, s)
-}
-
-// Whether a decay lies within 0.5 to 1.
-fn good_decay(d: f64) -> bool
-    ensures { λ r. ⌜ r ≡ goodDecay d ⌝ }
-{
-    0.5 <= d && d <= 1.0
 }
 
 // Takes the first unassigned variable from search on and puts its literal with the polarity on the trail as a decision.

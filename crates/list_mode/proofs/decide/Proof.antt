@@ -4,7 +4,7 @@ use lib.ListN.{length}
 use mathlib.Core.Path.{sym, _∙_}
 use mathlib.Core.List.{[]}
 use native.Mathlib.Omega.{arith}
-use Rattle.trail.specs.Laws.{level-len, room-for, room}
+use Rattle.trail.specs.Laws.{level-len, room-for, room-var}
 use Rattle.list_mode.proofs.Needed.{picked, picked-free}
 use Rattle.list_mode.proofs.Outcomes.{no-polarity, chosen, none-open, stuck}
 use borrow.Author.Needs.{needs}
@@ -21,7 +21,7 @@ enq-decision-requires c κs =
     let p = picked _ _ (k .ends) _ _ (sym (c .before .before .before .before .before .before .before .get-next .ensures [] []) ∙ c .before .before .before .before .before .past .given .1) in
     let h : c .before .before .before .before .before .past .given .0 .1 .0 < length (s .args .values .now) = omega (arith, p .0, k .next-long) in
     let room-left = room-for (k .trail) _ h (picked-free (k .trail) _ h (p .1)) in
-    (room (k .trail) (k .small), (room-left, (omega (arith, level-len (k .trail)), (h, c .before .before .before .before .before .before .before .before .before .before .before .if1 .left))))
+    (room-var (k .trail) (k .small) _ h (picked-free (k .trail) _ h (p .1)), (omega (arith, level-len (k .trail), room-left), c .before .before .before .before .before .before .before .before .before .before .before .if1 .left))
 
 enum-told : tie.Need-enum-told
 enum-told c = search needs

@@ -4,7 +4,7 @@ use Rattle.lit.specs.Lits.{index}
 use mathlib.Core.Path.{sym, _∙_}
 use native.Mathlib.Omega.{arith}
 use borrow.Author.Tests.{not-true, not-false}
-use Rattle.trail.specs.Laws.{room-for, room}
+use Rattle.trail.specs.Laws.{room-var}
 use Rattle.list_mode.specs.Kept.{free}
 use Rattle.list_mode.proofs.Outcomes.{no-variable, no-reason, not-free, put}
 use borrow.Author.Needs.{needs}
@@ -25,7 +25,7 @@ enq-assignment-requires c κs =
     let s = c .before .before .before .before .before .before .before .before .before .before .before .before .before .before .before .before .before .before in
     let g = s .pre .1 in
     let h : index (s .args .code) < s .args .n = omega (arith, c .before .before .before .before .before .before .before .before .before .before .before .if1 .left, c .before .before .before .before .before .before .before .before .before .before .before .before .index .ensures) in
-    rw (g .lengths .values-long) (room g (s .pre .0), (room-for g _ h (free g _ h (sym (c .before .before .before .before .before .before .before .lit-set .ensures) ∙ c .before .before .before .before .before .before .if3 .left)), h))
+    rw (g .lengths .values-long) (room-var g (s .pre .0) _ h (free g _ h (sym (c .before .before .before .before .before .before .before .lit-set .ensures) ∙ c .before .before .before .before .before .before .if3 .left)))
 
 returns-4 : tie.Need-returns-4
 returns-4 c =

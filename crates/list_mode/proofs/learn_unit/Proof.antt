@@ -3,7 +3,7 @@ use Prim.Native.Nat.{_<_}
 use Rattle.lit.specs.Lits.{index}
 use mathlib.Core.Path.{sym, _∙_}
 use native.Mathlib.Omega.{arith}
-use Rattle.trail.specs.Laws.{room-for, levelled}
+use Rattle.trail.specs.Laws.{room-var, levelled}
 use Rattle.trail.specs.Back.{back-good}
 use Rattle.list_mode.specs.Kept.{free}
 use Rattle.list_mode.proofs.Unit.{stays-assigned}
@@ -29,7 +29,7 @@ learn-unit-requires c κs =
     let g = s .pre .1 .1 in
     let h : index (s .args .code) < s .args .n = omega (arith, c .before .before .before .before .before .before .before .before .before .before .before .if1 .left, c .before .before .before .before .before .before .before .before .before .before .before .before .index .ensures) in
     let b = back-good 0 g in
-    rw (g .lengths .values-long) (levelled g (s .pre .0), (room-for b _ h (free b _ h (stays-assigned g _ h ∙ sym (c .before .before .before .before .before .before .before .before .at-level-zero .ensures) ∙ c .before .before .before .before .before .before .before .if2 .left)), h))
+    rw (g .lengths .values-long) (levelled g (s .pre .0), room-var b (s .pre .0) _ h (free b _ h (stays-assigned g _ h ∙ sym (c .before .before .before .before .before .before .before .before .at-level-zero .ensures) ∙ c .before .before .before .before .before .before .before .if2 .left)))
 
 returns-3 : tie.Need-returns-3
 returns-3 c =
