@@ -9,7 +9,7 @@ ghost use lib.Dec.{eqb};
 ghost use Rattle.lit.specs.Numbers as number;
 ghost use Rattle.lit.specs.Lits as lits;
 ghost use Rattle.formula.specs.Good.{GoodClauses};
-ghost use Rattle.trail.specs.Memory.{trailOf};
+ghost use Rattle.trail.specs.Memory.{trailOf, Lengths};
 ghost use Rattle.trail.specs.Good.{GoodTrail, IsReason};
 ghost use Rattle.trail.specs.Undone.{between};
 ghost use Rattle.vsids.specs.Vsids.{vsidsOf};
@@ -18,6 +18,8 @@ ghost use Rattle.book.specs.Calls as book;
 ghost use Rattle.book.specs.Session.{wentBack};
 ghost use Rattle.calls.specs.Calls.{callOf};
 ghost use Rattle.heap_mode.specs.Memory.{sessionOf, answer, Answers, insertAll};
+ghost use Rattle.vsids.specs.Check.{SameLengths};
+ghost use Rattle.heap_mode.specs.Check.{stateOk};
 ghost use Rattle.heap_mode.specs.Good.{GoodSession, ForValues, ForSwitches, Steady};
 use calls::Call;
 use lit::ASSIGNED;
@@ -543,4 +545,30 @@ pub fn step(
         }
         Call::Group => group(n, s, vars),
     }
+}
+
+// Whether the trail and the heap are good.
+pub fn check_state(
+    m: u32,
+    values: &[u8],
+    levels: &[u32],
+    reasons: &[u32],
+    trail: &[u32],
+    opened: &[u32],
+    activity: &[f64],
+    heap: &[u32],
+    indices: &[u32],
+    decision: &[bool],
+    s: HeapState,
+) -> bool
+    requires { ⌜ Lengths (length (now values)) (now values) (now levels) (now reasons) (now trail) (now opened) ⌝ }
+    requires { ⌜ SameLengths (length (now activity)) (now values) (now heap) (now indices) (now decision) ⌝ }
+    ensures { λ r. ⌜ r ≡ stateOk m (trailOf (now (values .entry)) (now (levels .entry)) (now (reasons .entry)) (now (trail .entry)) (now (opened .entry)) (s .trail)) (vsidsOf (now (activity .entry)) (now (heap .entry)) (now (indices .entry)) (now (decision .entry)) (s .vsids)) ⌝ }
+{
+    let t = s.trail;
+    let h = s.vsids;
+    if !trail::check::check_trail(m, values, levels, reasons, trail, opened, t) {
+        return false;
+    }
+    vsids::check_heap(values, activity, heap, indices, decision, h)
 }
