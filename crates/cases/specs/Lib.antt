@@ -1,7 +1,6 @@
--- Cases A to L of document 01 and its worked sheet, through one shared claim (Claim.antt), computed from the definitions.
+-- Cases A to L of document 01 and its worked sheet, through one shared claim, computed from the definitions.
 pub mod Claim
 pub mod Machines
 pub mod States
-pub mod HeapCases
-pub mod ListCases
-pub mod FormulaCases
+pub mod Definitions
+pub mod Cases

@@ -4,20 +4,18 @@ use mathlib.Core.Bool.{Bool, true, _&&_}
 use mathlib.Core.Option.{Option, none, some}
 use mathlib.Core.List.{List, [], _∷_, _++_}
 use lib.ListN.{length}
-use Rattle.laws.specs.Every.{every}
 use Rattle.formula.specs.declared.Checked.{Checked}
-use Rattle.formula.specs.Clauses.{noFallAt, endsOk, listOk, varBelow, varsBelow, clausesOk}
+use Rattle.formula.specs.Clauses.{clausesOk}
 use Rattle.formula.specs.Checks.{checkFormulaInvariantCall}
-use Rattle.trail.specs.Trail.{freshTrail, enqAssignment, enqDecision, backstep, backsteps, closeLevels, rewind, backtrackTo, undone, backtrackSafe}
-use Rattle.trail.specs.Check.{countsOk, valuesOk, reasonsOk, unusedOk, placesOk, heldOk, openedOk, levelsOk, trailOk}
+use Rattle.trail.specs.Check.{trailOk}
 use Rattle.vsids.specs.Check.{checkHeap}
 use Rattle.vmtf.specs.Vmtf.{checkList}
 use Rattle.book.specs.Calls.{Call}
-use Rattle.book.specs.Chooser.{below, Operations}
-use Rattle.book.specs.Session.{status, reply, leaves, need, Session, fresh, offerAll, wentBack, enqueued, tuned, decided, call}
+use Rattle.book.specs.Chooser.{Operations}
+use Rattle.book.specs.Session.{status, reply, leaves, Session, fresh, call}
 use Rattle.choosers.specs.Heap.{heapOps}
 use Rattle.choosers.specs.List.{listOps}
-use Rattle.cases.specs.Claim.{Machine, play}
+use Rattle.cases.specs.Claim.{Machine}
 
 -- Clauses are written each as its codes. Flat, as they are lent: the codes of all, and where each ends.
 abbrev pub Clauses : Type 0
@@ -72,11 +70,6 @@ heapMode n cs = sessions n cs (heapOps n (codes cs) (ends cs)) (checkHeap n)
 
 abbrev pub listMode : ℕ → Clauses → Machine
 listMode n cs = sessions n cs (listOps n (codes cs)) (λ values l. checkList l)
-
--- What a session computes with, whatever its chooser: a case says `unfolding` this.
-unfoldable pub sessionCalls : Unit {0}
-unfolding play codes endsFrom call need below tuned decided enqueued wentBack offerAll fresh freshTrail enqAssignment enqDecision backstep backsteps closeLevels rewind backtrackTo backtrackSafe undone every noFallAt endsOk listOk varBelow varsBelow clausesOk countsOk valuesOk reasonsOk unusedOk placesOk heldOk openedOk levelsOk trailOk
-sessionCalls = tt
 
 -- the formula check takes formulas, and keeps nothing
 pub record Formula : Type 0 where
