@@ -1,15 +1,16 @@
 -- Cases A to L of document 01 in its order, and its worked sheet. Each is an instance of one claim, `Holds`, and is computed.
 use Prim.Native.Nat.{ℕ}
-use mathlib.Core.Path.{refl}
+use mathlib.Core.Path.{_≡_, refl}
 use mathlib.Core.Bool.{true, false}
 use mathlib.Core.List.{[], _∷_}
 use Rattle.lit.specs.Numbers.{NONE}
 use Rattle.formula.specs.declared.SatResult.the-variants.{Err, Sat, Unsat}
 use Rattle.formula.specs.declared.Checked.the-variants.{Answer}
 use Rattle.vsids.specs.Vsids.{Vsids}
+use Rattle.vmtf.specs.Vmtf.{countLits}
 use Rattle.book.specs.Calls.{bump, decay, setDecay, switchOff, decide, learnUnit, goBack, group}
 use Rattle.cases.specs.Claim.{Machine, Holds}
-use Rattle.cases.specs.Machines.{Clauses, passes, saysNone, says, refused, heapMode, listMode, Formula, formulaCheck}
+use Rattle.cases.specs.Machines.{Clauses, codes, passes, saysNone, says, refused, heapMode, listMode, Formula, formulaCheck}
 use Rattle.cases.specs.States.{undone, untouched, decidedOne, learnedOne, zero, one, two, half, usual, e100, e200, stepOf, memberOne, emptyOne, list}
 use Rattle.cases.specs.Definitions.{definitions}
 
@@ -36,9 +37,16 @@ pub case-A-list : Holds (listMode 0 []) (record {
 unfolding definitions
 case-A-list = (refl, refl)
 
--- B. Counts 1,1,2: list 2,1,0, stamps 3,2,1. The clauses have codes of variables 0 and 2, and of 1 and 2; the fresh list is compared.
+-- B. Counts 1,1,2: list 2,1,0, stamps 3,2,1. No call: the fresh session of two clauses is compared, which have these counts.
+abbrev twoClauses : Clauses
+twoClauses = (1 ∷ 5 ∷ []) ∷ (2 ∷ 4 ∷ []) ∷ []
+
 abbrev counted : Machine
-counted = listMode 3 ((1 ∷ 5 ∷ []) ∷ (2 ∷ 4 ∷ []) ∷ [])
+counted = listMode 3 twoClauses
+
+pub case-B-counts : countLits (0 ∷ 0 ∷ 0 ∷ []) (codes twoClauses) ≡ 1 ∷ 1 ∷ 2 ∷ []
+unfolding definitions
+case-B-counts = refl
 
 pub case-B : Holds counted (record {
   start = counted .fresh;
