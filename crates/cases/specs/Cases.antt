@@ -2,10 +2,11 @@
 use Prim.Native.Nat.{ℕ}
 use mathlib.Core.Path.{_≡_, refl}
 use mathlib.Core.Bool.{true, false}
-use mathlib.Core.List.{[], _∷_}
+use mathlib.Core.List.{[], _∷_, map}
 use Rattle.lit.specs.Numbers.{NONE}
 use Rattle.formula.specs.declared.SatResult.the-variants.{Err, Sat, Unsat}
 use Rattle.formula.specs.declared.Checked.the-variants.{Answer}
+use Rattle.formula.specs.Checks.{satNumber, checkedNumbers}
 use Rattle.vsids.specs.Vsids.{Vsids}
 use Rattle.vmtf.specs.Vmtf.{countLits}
 use Rattle.book.specs.Calls.{bump, decay, setDecay, switchOff, decide, learnUnit, goBack, group}
@@ -194,6 +195,11 @@ pub case-L : Holds formulaCheck (record {
 })
 unfolding definitions
 case-L = (refl, refl)
+
+-- the three answers in numbers, each with status 0
+pub case-L-numbers : map checkedNumbers (Answer Sat ∷ Answer Err ∷ Answer Unsat ∷ []) ≡ (0, 1) ∷ (0, 0) ∷ (0, 2) ∷ []
+unfolding checkedNumbers satNumber
+case-L-numbers = refl
 
 -- The worked sheet, from `b|2` on, with its clause `c|1|3`: lines 3 to 8 answer -, 2, 0, 1, 1, 2. At the end all three variables are
 -- undone and members again, 2 in front by its bump.
