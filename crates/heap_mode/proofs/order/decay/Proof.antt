@@ -1,9 +1,9 @@
--- `heap_mode::decay` meets its contract: by its test.
+-- `heap_mode::order::decay` meets its contract: by its test.
 use mathlib.Core.Path.{sym, _∙_}
 use Rattle.heap_mode.proofs.Outcomes.{step-large, decayed}
 use borrow.Author.Needs.{needs}
-use Rattle.heap_mode.proofs.decay.Statement.{statement}
-use Rattle.heap_mode.proofs.decay.Tie as tie
+use Rattle.heap_mode.proofs.order.decay.Statement.{statement}
+use Rattle.heap_mode.proofs.order.decay.Tie as tie
 
 returns : tie.Need-returns
 returns c = λ n m lits ends values levels reasons trail opened a h p d. rw (c .refuse .ensures) (step-large n m lits ends _ (sym (c .before .before .large-step .ensures) ∙ c .before .if1 .taken))

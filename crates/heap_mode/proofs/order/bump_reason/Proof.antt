@@ -1,17 +1,21 @@
--- `heap_mode::bump_reason` meets its contract: a reason that is not NONE is a clause, and its literals are of variables.
+-- `heap_mode::order::bump_reason` meets its contract: a reason that is not NONE is a clause, and its literals are of variables.
 use mathlib.Core.Logic.{_⊎_, inl, inr}
 use native.Mathlib.Omega.{arith}
 use Rattle.formula.specs.Reading.{clause-at, clause-below}
 use Rattle.vsids.specs.Kept.{good-room, good-placed}
 use Rattle.heap_mode.proofs.Needed.{is-clause}
-use Rattle.heap_mode.proofs.Outcomes.{no-reason-of, without-reason, reason-bumped}
+use borrow.Author.Tests.{le-ltb}
+use Rattle.book.specs.Session.{call}
+use Rattle.calls.specs.Outcomes.{failed}
+use Rattle.heap_mode.proofs.Outcomes.{without-reason, reason-bumped}
 use mathlib.Core.Path.{refl}
 use borrow.Author.Needs.{needs}
-use Rattle.heap_mode.proofs.bump_reason.Statement.{statement}
-use Rattle.heap_mode.proofs.bump_reason.Tie as tie
+use Rattle.heap_mode.proofs.order.bump_reason.Statement.{statement}
+use Rattle.heap_mode.proofs.order.bump_reason.Tie as tie
 
 returns : tie.Need-returns
-returns c = λ m values levels trail opened d. rw (c .refuse .ensures) (no-reason-of _ m _ _ _ _ (c .before .if1 .taken))
+unfolding call
+returns c = λ m values levels trail opened d. rw (c .refuse .ensures) (failed _ (le-ltb _ _ (c .before .if1 .taken)))
 
 returns-2 : tie.Need-returns-2
 returns-2 c = λ m values levels trail opened d. rw (c .accept .ensures) (without-reason _ m _ _ _ _ (c .before .before .before .if1 .left) _ refl (c .before .if2 .taken))
@@ -41,7 +45,7 @@ bump-reason-spec =
     clause-requires
     bump-reason-literals-requires
     (λ c κs. search needs)
-    (λ c. search needs)
-    (λ c. search needs)
-    (λ c. search needs)
+    (λ c. c .before .before .before .before .before .before .before .bump-reason-literals .kept .0)
+    (λ c. c .before .before .before .before .before .before .before .bump-reason-literals .kept .1 .0)
+    (λ c. c .before .before .before .before .before .before .before .bump-reason-literals .kept .1 .1 .0)
     returns-3)

@@ -1,11 +1,11 @@
--- `heap_mode::went_back` meets its contract: what is undone is offered to the heap, then taken off the trail.
+-- `heap_mode::search::went_back` meets its contract: what is undone is offered to the heap, then taken off the trail.
 use mathlib.Core.Path.{sym}
 use native.Mathlib.Omega.{arith}
 use Rattle.trail.specs.Laws.{levelled}
 use Rattle.heap_mode.proofs.Going.{stayed, went}
 use borrow.Author.Needs.{needs}
-use Rattle.heap_mode.proofs.went_back.Statement.{statement}
-use Rattle.heap_mode.proofs.went_back.Tie as tie
+use Rattle.heap_mode.proofs.search.went_back.Statement.{statement}
+use Rattle.heap_mode.proofs.search.went_back.Tie as tie
 
 returns : tie.Need-returns
 returns c = λ n m lits ends. stayed n m lits ends _ _ (c .if1 .taken)
@@ -31,10 +31,10 @@ went-back-spec =
     (λ c. search needs)
     offer-undone-requires
     backtrack-to-requires
-    (λ c. search needs)
-    (λ c. search needs)
-    (λ c. search needs)
-    (λ c. search needs)
-    (λ c. search needs)
-    (λ c. search needs)
+    (λ c. c .before .before .before .before .before .before .before .before .backtrack-to .kept .0)
+    (λ c. c .before .before .before .before .before .before .before .before .backtrack-to .kept .1 .1 .0)
+    (λ c. c .before .before .before .before .before .before .before .before .backtrack-to .kept .1 .1 .1 .0)
+    (λ c. c .before .before .before .before .before .before .before .before .backtrack-to .kept .1 .1 .1 .1 .0)
+    (λ c. c .before .before .before .before .before .before .before .before .before .before .before .before .before .before .before .before .before .offer-undone .kept .1 .0)
+    (λ c. c .before .before .before .before .before .before .before .before .before .before .before .before .before .before .before .before .before .offer-undone .kept .1 .1 .0)
     returns-2)

@@ -1,4 +1,4 @@
--- `heap_mode::offer_undone` meets its contract. The loop's invariant: offering the variables that are left gives the goal.
+-- `heap_mode::search::offer_undone` meets its contract. The loop's invariant: offering the variables that are left gives the goal.
 use Prim.Native.Nat.{ℕ, _-_, _<_}
 use mathlib.Core.Path.{refl, sym, ap, _∙_}
 use native.Mathlib.Omega.{arith}
@@ -9,8 +9,8 @@ use Rattle.vsids.specs.Kept.{good-room, good-free}
 use Rattle.heap_mode.specs.Memory.{insertAll}
 use Rattle.heap_mode.proofs.Going.{Offering, offering, offered-all}
 use borrow.Author.Needs.{needs}
-use Rattle.heap_mode.proofs.offer_undone.Statement.{statement}
-use Rattle.heap_mode.proofs.offer_undone.Tie as tie
+use Rattle.heap_mode.proofs.search.offer_undone.Statement.{statement}
+use Rattle.heap_mode.proofs.search.offer_undone.Tie as tie
 
 abbrev Inv-loop : tie.InvT-loop
 Inv-loop activity heap₀ indices₀ decision trail from to state₀ i₀ heap indices state i =
