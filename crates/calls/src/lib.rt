@@ -4,6 +4,8 @@ ghost use Prim.Native.Nat.{ℕ};
 ghost use Rattle.book.specs.Chooser.{below, goodReason};
 use lit::NONE;
 
+pub mod on_trail;
+
 // The eleven calls. The variables of a group are a slice beside the call.
 pub enum Call {
     // a variable

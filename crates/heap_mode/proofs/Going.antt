@@ -2,18 +2,14 @@
 -- with them unassigned.
 use Prim.Native.Nat.{ℕ, _+_, _-_, _≤_, _<_}
 use mathlib.Core.Path.{_≡_, refl, sym, ap, _∙_}
-use mathlib.Core.Bool.{cond}
 use mathlib.Core.List.{List, [], _∷_}
 use native.Mathlib.Omega.{arith}
-use borrow.Author.Tests.{lt-ltb, le-ltb, ltb-true}
-use lib.Dec.{ltb}
+use borrow.Author.Tests.{lt-ltb, le-ltb}
 use lib.ListN.{length, getD}
-use Rattle.laws.specs.Tests.{cond-elim}
 use Rattle.lit.specs.Lits.{index}
 use Rattle.trail.specs.Trail.{Trail, backtrackSafe, backtrackTo, undone}
-use Rattle.trail.specs.Good.{openedAt, GoodTrail}
-use Rattle.trail.specs.Back.{back-kept, back-good}
-use Rattle.trail.specs.Undone.{between, undone-between, between-none, between-more}
+use Rattle.trail.specs.Good.{openedAt}
+use Rattle.trail.specs.Undone.{between, between-none, between-more}
 use Rattle.vsids.specs.Vsids.{Vsids, insert}
 use Rattle.vsids.specs.Kept.{undo-ok}
 use Rattle.choosers.specs.Heap.{heapOps}
@@ -65,14 +61,3 @@ module _ (n m : ℕ) (lits ends : List ℕ) where
     pub back-trail : (u : Session n m (heapOps n lits ends)) → u ≡ wentBack n m (heapOps n lits ends) l s → u .trail ≡ backtrackSafe l (s .trail)
     unfolding wentBack
     back-trail u e = ap (λ (x : Session n m (heapOps n lits ends)). x .trail) e
-
-pub good-after : {n m : ℕ} (l : ℕ) {t u : Trail} → GoodTrail n m t → u ≡ backtrackSafe l t → GoodTrail n m u
-good-after l g e = rw e (back-good l g)
-
--- going back puts nothing on the trail
-pub back-len : {n m : ℕ} (l : ℕ) {t : Trail} → GoodTrail n m t → backtrackSafe l t .len ≤ t .len
-unfolding backtrackSafe
-back-len l {t} g =
-    cond-elim (λ (u : Trail). u .len ≤ t .len) (ltb l (t .level))
-    (λ e. let h = ltb-true l (t .level) e in omega (arith, back-kept g h .len-is, g .below l h))
-    (λ _. omega arith)

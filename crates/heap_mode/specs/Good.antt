@@ -36,3 +36,6 @@ pub record Steady (n : ℕ) (t : Trail) (h : Vsids) : Type 0 where
   pub clauses : ℕ
   pub trail : GoodTrail n clauses t
   pub heap : GoodHeap n (t .values) h
+
+pub steady : {n m : ℕ} {lits ends : List ℕ} {t : Trail} {h : Vsids} → GoodSession n m lits ends t h → Steady n t h
+steady g = record { small = g .small; clauses = _; trail = g .trail; heap = g .heap }

@@ -15,7 +15,7 @@ use Rattle.lit.specs.Numbers.{NONE, maxVars, unassigned, pastOpen}
 use Rattle.lit.specs.Lits.{index, isAssigned}
 use Rattle.trail.specs.Trail.{Trail, freshTrail, enqAssignment, enqDecision, backtrackSafe}
 use Rattle.trail.specs.Good.{valueAt, IsReason, GoodTrail}
-use Rattle.trail.specs.Laws.{fresh-good, enq-good, dec-good}
+use Rattle.trail.specs.Laws.{fresh-good, not-assigned, enq-good, dec-good}
 use Rattle.trail.specs.Back.{back-good}
 use Rattle.vmtf.specs.declared.Next as code
 use Rattle.vmtf.specs.declared.Next.the-variants as found
@@ -45,10 +45,6 @@ module _ (n m : ℕ) (lits : List ℕ) where
   pub went : (l : ℕ) (s : Session n m (listOps n lits)) → wentBack n m (listOps n lits) l s ≡ record { trail = backtrackSafe l (s .trail); chooser = s .chooser }
   unfolding wentBack
   went l s = ap (λ (c : Vmtf). record { trail = backtrackSafe l (s .trail); chooser = c }) (same (ltb l (s .trail .level)) _ (s .chooser))
-
--- a variable that is not assigned has the value for that
-pub free : {n m : ℕ} {t : Trail} → GoodTrail n m t → (v : ℕ) → v < n → isAssigned (t .values) v ≡ false → valueAt t v ≡ unassigned
-free {t = t} g v h e = omega (arith, g .values-good v h, ltb-false (valueAt t v) unassigned e)
 
 -- a reason that passed its test
 reason-right : (m r : ℕ) → goodReason m r ≡ true → IsReason m r
@@ -82,14 +78,14 @@ module _ (n m : ℕ) (lits : List ℕ) where
     decide-good : (p : ℕ) → p < 2 → (r : code.Next) → NextIs n (g .list .0) (s .trail .values) (s .chooser) r
         → IsGood (leaves s (decided n m (listOps n lits) p s (nextOf (s .chooser) r)))
     unfolding decided
-    decide-good p h (found.Chose l v) k = record { small = g .small; trail = dec-good v p (g .trail) (k .0) h (free (g .trail) v (k .0) (k .1)); list = (_, k .2) }
+    decide-good p h (found.Chose l v) k = record { small = g .small; trail = dec-good v p (g .trail) (k .0) h (not-assigned (g .trail) v (k .0) (k .1)); list = (_, k .2) }
     decide-good p h found.Nothing k = g
     decide-good p h found.Stuck k = g
 
     enqueue-good : (code reason : ℕ) (u : Session n m (listOps n lits)) → IsGood u → index code < n → IsReason m reason → isAssigned (u .trail .values) (index code) ≡ false
         → IsGood (enqueued n m (listOps n lits) code reason u)
     unfolding enqueued
-    enqueue-good code reason u k h r a = record { small = k .small; trail = enq-good code reason (k .trail) h (free (k .trail) (index code) h a) r; list = k .list }
+    enqueue-good code reason u k h r a = record { small = k .small; trail = enq-good code reason (k .trail) h (not-assigned (k .trail) (index code) h a) r; list = k .list }
 
     pub kept : (c : Call) → IsGood (leaves s (call n m (listOps n lits) s c))
     unfolding call tuned

@@ -1,14 +1,12 @@
 // A session in list mode: the trail and the move-to-front list over lent slices, and the eleven calls on it.
 ghost use mathlib.Core.Path.{_≡_};
-ghost use mathlib.Core.Bool.{cond, _&&_};
+ghost use mathlib.Core.Bool.{cond};
 ghost use mathlib.Core.List.{List};
-ghost use Prim.Native.Nat.{ℕ, _≤_, _<_};
-ghost use lib.ListN.{length, getD};
+ghost use Prim.Native.Nat.{ℕ};
+ghost use lib.ListN.{length};
 ghost use lib.Dec.{eqb};
 ghost use Rattle.lit.specs.Numbers as number;
-ghost use Rattle.lit.specs.Lits as lits;
-ghost use Rattle.trail.specs.Memory.{trailOf, Levelled};
-ghost use Rattle.trail.specs.Good.{GoodTrail};
+ghost use Rattle.trail.specs.Memory.{trailOf};
 ghost use Rattle.vmtf.specs.Vmtf.{vmtfOf};
 ghost use Rattle.book.specs.Calls as book;
 ghost use Rattle.calls.specs.Calls.{callOf};
@@ -16,10 +14,10 @@ ghost use Rattle.list_mode.specs.Memory.{sessionOf, answer, Answers, cle
 ghost use Rattle.list_mode.specs.Good.{InOrder, GoodSession, Choosable};
 use activity::good_decay;
 use calls::Call;
-use lit::ASSIGNED;
+use calls::on_trail;
+use calls::on_trail::TrailAnswer;
 use lit::BAD_DECAY;
 use lit::BAD_POLARITY;
-use lit::BAD_REASON;
 use lit::NO_VARIABLE;
 use lit::NONE;
 use lit::PAST_OPEN;
@@ -83,7 +81,7 @@ fn decide(
     s: ListState,
     p: u32,
 ) -> ListAnswer
-    requires { ⌜ ((m : ℕ) × Choosable (length (now values)) m (trailOf (now values) (now levels) (now reasons) (now trail) (now opened) (s .trail)) (now next) (s .vmtf .search)) ⌝ }
+    requires { ⌜ Choosable (length (now values)) (trailOf (now values) (now levels) (now reasons) (now trail) (now opened) (s .trail)) (now next) (s .vmtf) ⌝ }
     ensures { λ r. ⌜ ((n m : ℕ) (lits prev ts : List ℕ) → Answers n m lits (book.decide p)
         (sessionOf n m lits (now (values .entry)) (now (levels .entry)) (now (reasons .entry)) (now (trail .entry)) (now (opened .entry)) (now (next .entry)) prev ts s)
         r
@@ -108,100 +106,6 @@ fn decide(
         Next::Nothing => accept(NONE, s),
         Next::Stuck => refuse(PAST_OPEN, s),
     }
-}
-
-// Puts a literal with a reason on the trail.
-fn enqueue(
-    n: u32,
-    m: u32,
-    values: &mut [u8],
-    levels: &mut [u32],
-    reasons: &mut [u32],
-    trail: &mut [u32],
-    opened: &[u32],
-    s: ListState,
-    code: u32,
-    reason: u32,
-) -> ListAnswer
-    requires { ⌜ (n ≤ number.maxVars) × GoodTrail n m (trailOf (now values) (now levels) (now reasons) (now trail) (now opened) (s .trail)) ⌝ }
-    ensures { λ r. ⌜ ((lits next prev ts : List ℕ) → Answers n m lits (book.enqueue code reason)
-        (sessionOf n m lits (now (values .entry)) (now (levels .entry)) (now (reasons .entry)) (now (trail .entry)) (now (opened .entry)) next prev ts s)
-        r
-        (sessionOf n m lits (now (values .exit)) (now (levels .exit)) (now (reasons .exit)) (now (trail .exit)) (now (opened .entry)) next prev ts (r .state))) ⌝ }
-{
-    if lit::index(code) >= n {
-        return refuse(NO_VARIABLE, s);
-    }
-    if !calls::good_reason(m, reason) {
-        return refuse(BAD_REASON, s);
-    }
-    if lit::lit_set(code, values) {
-        return refuse(ASSIGNED, s);
-    }
-    let t = s.trail;
-    let l = s.vmtf;
-    let u = trail::enq_assignment(values, levels, reasons, trail, opened, t, code, reason);
-    accept(NONE, ListState { trail: u, vmtf: l })
-}
-
-// Whether the literal's variable is assigned at level 0, and so stays assigned when the trail goes back there.
-fn at_level_zero(values: &[u8], levels: &[u32], code: u32) -> bool
-    requires { ⌜ (lits.index code < length (now values)) × (lits.index code < length (now levels)) ⌝ }
-    ensures { λ r. ⌜ r ≡ (lits.isAssigned (now (values .entry)) (lits.index code) && eqb (getD (now (levels .entry)) (lits.index code) 0) 0) ⌝ }
-{
-    let v = lit::index(code) as usize;
-    lit::lit_set(code, values) && levels[v] == 0
-}
-
-// Goes back to level 0 and puts a literal on the trail there.
-fn learn_unit(
-    n: u32,
-    values: &mut [u8],
-    levels: &mut [u32],
-    reasons: &mut [u32],
-    trail: &mut [u32],
-    opened: &mut [u32],
-    s: ListState,
-    code: u32,
-) -> ListAnswer
-    requires { ⌜ (n ≤ number.maxVars) × ((m : ℕ) × GoodTrail n m (trailOf (now values) (now levels) (now reasons) (now trail) (now opened) (s .trail))) ⌝ }
-    ensures { λ r. ⌜ ((m : ℕ) (lits next prev ts : List ℕ) → Answers n m lits (book.learnUnit code)
-        (sessionOf n m lits (now (values .entry)) (now (levels .entry)) (now (reasons .entry)) (now (trail .entry)) (now (opened .entry)) next prev ts s)
-        r
-        (sessionOf n m lits (now (values .exit)) (now (levels .exit)) (now (reasons .exit)) (now (trail .exit)) (now (opened .exit)) next prev ts (r .state))) ⌝ }
-{
-    if lit::index(code) >= n {
-        return refuse(NO_VARIABLE, s);
-    }
-    if at_level_zero(values, levels, code) {
-        return refuse(ASSIGNED, s);
-    }
-    let t = s.trail;
-    let l = s.vmtf;
-    let u = trail::learn_unit(values, levels, reasons, trail, opened, t, code);
-    accept(NONE, ListState { trail: u, vmtf: l })
-}
-
-// Goes back to a level if it is below the present one, and says how many variables became unassigned.
-fn go_back(
-    values: &mut [u8],
-    levels: &[u32],
-    reasons: &mut [u32],
-    trail: &mut [u32],
-    opened: &mut [u32],
-    s: ListState,
-    level: u32,
-) -> ListAnswer
-    requires { ⌜ ((m : ℕ) × GoodTrail (length (now values)) m (trailOf (now values) (now levels) (now reasons) (now trail) (now opened) (s .trail))) × (length (now values) ≤ number.maxVars) ⌝ }
-    ensures { λ r. ⌜ ((n m : ℕ) (lits next prev ts : List ℕ) → Answers n m lits (book.goBack level)
-        (sessionOf n m lits (now (values .entry)) (now (levels .entry)) (now (reasons .entry)) (now (trail .entry)) (now (opened .entry)) next prev ts s)
-        r
-        (sessionOf n m lits (now (values .exit)) (now (levels .entry)) (now (reasons .exit)) (now (trail .exit)) (now (opened .exit)) next prev ts (r .state))) ⌝ }
-{
-    let t = s.trail;
-    let l = s.vmtf;
-    let u = trail::backtrack_safe(values, levels, reasons, trail, opened, t, level);
-    accept(t.len - u.len, ListState { trail: u, vmtf: l })
 }
 
 // Moves a group to the front of the list. The stamps and the order are scratch.
@@ -232,6 +136,18 @@ fn group(
     accept(NONE, ListState { trail: t, vmtf: u })
 }
 
+// What a call on the trail alone answers; the list stays.
+fn with_list(a: TrailAnswer, l: VmtfState) -> ListAnswer
+    ensures { λ r. ⌜ r ≡ answer (a .status) (a .reply) (record { trail = a .state; vmtf = l }) ⌝ }
+{
+    let t = a.state;
+    ListAnswer {
+        status: a.status,
+        reply: a.reply,
+        state: ListState { trail: t, vmtf: l },
+    }
+}
+
 // A call on a good session. The stamps and the order are a group's scratch.
 pub fn step(
     n: u32,
@@ -258,6 +174,8 @@ pub fn step(
         (sessionOf n m lits (now (values .exit)) (now (levels .exit)) (now (reasons .exit)) (now (trail .exit)) (now (opened .exit)) (now (next .exit)) (now (prev .exit)) (now (ts .exit)) (r .state))) ⌝ }
     ensures { λ r. ⌜ (now (stamps .exit) ≡ cleared (clears call (r .status)) (now (stamps .entry))) × (now (order .exit) ≡ cleared (clears call (r .status)) (now (order .entry))) ⌝ }
 {
+    let t = s.trail;
+    let l = s.vmtf;
     match call {
         Call::Bump(v) => tested(v < n, NO_VARIABLE, s),
         Call::Decay => accept(NONE, s),
@@ -266,7 +184,7 @@ pub fn step(
         Call::SwitchOff(v) => tested(v < n, NO_VARIABLE, s),
         Call::Decide(p) => decide(values, levels, reasons, trail, opened, next, s, p),
         Call::Enqueue(code, reason) => {
-            enqueue(
+            let a = on_trail::enqueue(
                 n,
                 m,
                 values,
@@ -274,13 +192,20 @@ pub fn step(
                 reasons,
                 trail,
                 opened,
-                s,
+                t,
                 code,
                 reason,
-            )
+            );
+            with_list(a, l)
         }
-        Call::LearnUnit(code) => { learn_unit(n, values, levels, reasons, trail, opened, s, code) }
-        Call::GoBack(level) => go_back(values, levels, reasons, trail, opened, s, level),
+        Call::LearnUnit(code) => {
+            let a = on_trail::learn_unit(n, values, levels, reasons, trail, opened, t, code);
+            with_list(a, l)
+        }
+        Call::GoBack(level) => {
+            let a = on_trail::go_back(values, levels, reasons, trail, opened, t, level);
+            with_list(a, l)
+        }
         Call::BumpReason(v) => tested(v < n, NO_VARIABLE, s),
         Call::Group => group(n, next, prev, ts, s, vars, stamps, order),
     }

@@ -1,5 +1,5 @@
 -- Going back to level l of a good trail leaves the part below that level's opening, and it is good.
-use Prim.Native.Nat.{ℕ, _-_, _<_}
+use Prim.Native.Nat.{ℕ, _-_, _≤_, _<_}
 use mathlib.Core.Path.{_≡_, refl, sym, ap, _∙_, subst}
 use mathlib.Core.Logic.{inr, _≢_, by-cases}
 use mathlib.Core.List.{_++_}
@@ -130,6 +130,14 @@ module _ {n m l : ℕ} {t : Trail} (g : GoodTrail n m t) (h : l < t .level) wher
         value-gone = gone;
         reason-gone = λ v b f. s .no-reason v b (gone v b f);
       }
+
+-- `backtrack_safe` puts nothing on the trail
+pub back-len : {n m : ℕ} (l : ℕ) {t : Trail} → GoodTrail n m t → backtrackSafe l t .len ≤ t .len
+unfolding backtrackSafe
+back-len l {t} g =
+    cond-elim (λ (u : Trail). u .len ≤ t .len) (ltb l (t .level))
+    (λ e. let h = ltb-true l (t .level) e in omega (arith, back-kept g h .len-is, g .below l h))
+    (λ _. omega arith)
 
 -- `backtrack_safe` and `learn_unit` keep a good trail good
 pub back-good : {n m : ℕ} (l : ℕ) {t : Trail} → GoodTrail n m t → GoodTrail n m (backtrackSafe l t)

@@ -6,7 +6,7 @@ use mathlib.Core.Bool.{false}
 use mathlib.Core.List.{List}
 use native.Mathlib.Omega.{arith}
 use native.Mathlib.Decide.{ℕ-discrete}
-use borrow.Author.Tests.{le-leb, lt-leb}
+use borrow.Author.Tests.{le-leb, lt-leb, ltb-false}
 use lib.ListN.{length, getD, set, length-set, length-replicate, getD-replicate}
 use lib.Seq.{getD-set-same, getD-set-other, set-getD}
 use lib.Dec.{leb}
@@ -14,7 +14,7 @@ use Rattle.laws.specs.Lists.{set-cases}
 use Rattle.laws.specs.Some.{count-all, count-cut, count-same}
 use Rattle.laws.specs.Pigeonhole.{missed}
 use Rattle.lit.specs.Numbers.{NONE, unassigned, maxVars}
-use Rattle.lit.specs.Lits.{index, polarity, new}
+use Rattle.lit.specs.Lits.{index, polarity, new, isAssigned}
 use Rattle.trail.specs.Trail.{Trail, freshTrail, enqAssignment, enqDecision}
 use Rattle.trail.specs.Memory.{Room, RoomFor, Levelled}
 use Rattle.trail.specs.Good.{valueAt, varAt, openedAt, notAbove, IsReason, GoodTrail}
@@ -58,6 +58,10 @@ module _ {n m : ℕ} {t : Trail} (g : GoodTrail n m t) where
 
   pub level-len : t .level ≤ t .len
   level-len = by-cases (ℕ-discrete (t .level) 0) (λ e. omega arith) (λ e. omega (arith, opened-least (t .level - 1) (omega arith), g .below (t .level - 1) (omega arith)))
+
+  -- a variable that is not assigned has the value for that
+  pub not-assigned : (v : ℕ) → v < n → isAssigned (t .values) v ≡ false → valueAt t v ≡ unassigned
+  not-assigned v h e = omega (arith, g .values-good v h, ltb-false (valueAt t v) unassigned e)
 
   -- while a variable is unassigned there is room on the trail
   pub room-for : (v : ℕ) → v < n → valueAt t v ≡ unassigned → t .len < n

@@ -7,5 +7,6 @@ pub mod Checked
 pub mod Laws
 pub mod Undoing
 pub mod Back
+pub mod Unit
 pub mod Since
 pub mod Undone

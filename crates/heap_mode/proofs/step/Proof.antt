@@ -1,41 +1,35 @@
 -- `heap_mode::step` meets its contract: each arm by the contract of its call.
+use mathlib.Core.Path.{refl}
+use Rattle.calls.specs.OnTrail.{enqueue-with}
+use Rattle.heap_mode.specs.Good.{steady}
 use borrow.Author.Needs.{needs}
 use Rattle.heap_mode.proofs.step.Statement.{statement}
 use Rattle.heap_mode.proofs.step.Tie as tie
 
 bump-requires : tie.Need-bump-requires
-bump-requires c κs = let s = c .before .before .before .before .before .before .before .before .before .before .before .before .before .before .before .before .before .before in (s .args .decision .now, (s .args .values .now, s .pre .heap))
+bump-requires c κs = let s = c .before .before .before .before .before .before .before .before .before .before .before .before .before .before .before .before .before .before .before .before in (s .args .decision .now, (s .args .values .now, s .pre .heap))
 
 insert-requires : tie.Need-insert-requires
-insert-requires c κs = let s = c .before .before .before .before .before .before .before .before .before .before .before .before .before .before .before .before .before .before .before in (s .args .values .now, s .pre .heap)
+insert-requires c κs = let s = c .before .before .before .before .before .before .before .before .before .before .before .before .before .before .before .before .before .before .before .before .before in (s .args .values .now, s .pre .heap)
 
 switch-off-requires : tie.Need-switch-off-requires
-switch-off-requires c κs = c .before .before .before .before .before .before .before .before .before .before .before .before .before .before .before .before .pre .heap .switches
+switch-off-requires c κs = c .before .before .before .before .before .before .before .before .before .before .before .before .before .before .before .before .before .before .pre .heap .switches
 
 decide-requires : tie.Need-decide-requires
-decide-requires c κs =
-    let s = c .before .before .before .before .before .before .before .before .before .before .before .before .before .before .before .before .before .before .before .before .before .before .before .before in
-    let g = s .pre in
-    rw (g .trail .lengths .values-long) (record { small = g .small; clauses = s .args .m; trail = g .trail; heap = g .heap })
+decide-requires c κs = let g = c .before .before .before .before .before .before .before .before .before .before .before .before .before .before .before .before .before .before .before .before .before .before .before .before .before .before .pre in rw (g .trail .lengths .values-long) (steady g)
 
 enqueue-requires : tie.Need-enqueue-requires
-enqueue-requires c κs = let g = c .before .before .before .before .before .before .before .before .before .before .before .before .before .before .before .before .before .before .before .before .pre in (g .small, g .trail)
+enqueue-requires c κs = let g = c .before .before .before .before .before .before .before .before .before .before .before .before .before .before .before .before .before .before .before .before .before .before .pre in (g .small, g .trail)
 
 learn-unit-requires : tie.Need-learn-unit-requires
-learn-unit-requires c κs =
-    let s = c .before .before .before .before .before .before .before .before .before .before .before .before .before .before .before .before .before .before .before .before .before .before .before .before in
-    let g = s .pre in
-    record { small = g .small; clauses = s .args .m; trail = g .trail; heap = g .heap }
+learn-unit-requires c κs = steady (c .before .before .before .before .before .before .before .before .before .before .before .before .before .before .before .before .before .before .before .before .before .before .before .before .before .before .pre)
 
 go-back-requires : tie.Need-go-back-requires
-go-back-requires c κs =
-    let s = c .before .before .before .before .before .before .before .before .before .before .before .before .before .before .before .before .before .before .before .before .before .before .before .before in
-    let g = s .pre in
-    rw (g .trail .lengths .values-long) (record { small = g .small; clauses = s .args .m; trail = g .trail; heap = g .heap })
+go-back-requires c κs = let g = c .before .before .before .before .before .before .before .before .before .before .before .before .before .before .before .before .before .before .before .before .before .before .before .before .before .before .pre in rw (g .trail .lengths .values-long) (steady g)
 
 bump-reason-requires : tie.Need-bump-reason-requires
 bump-reason-requires c κs =
-    let s = c .before .before .before .before .before .before .before .before .before .before .before .before .before .before .before .before .before .before .before in
+    let s = c .before .before .before .before .before .before .before .before .before .before .before .before .before .before .before .before .before .before .before .before .before in
     let g = s .pre in
     ((g .clauses, (g .trail .lengths .reasons-long, rw (g .count) (g .trail .reasons-good))), (s .args .decision .now, (s .args .values .now, g .heap)))
 
@@ -58,7 +52,7 @@ returns-6 : tie.Need-returns-6
 returns-6 c = rw (c .before .before .before .before .before .before .before .before .before .before .before .before .before .before .before .before .before .before .before .before .before .before .before .call5 .given .1) (c .before .before .before .before .before .before .before .before .before .before .before .before .decide .ensures _ _ _ _)
 
 returns-7 : tie.Need-returns-7
-returns-7 c = rw (c .before .before .before .before .before .before .before .before .before .before .before .before .before .before .before .call6 .given .1) (c .before .before .before .before .before .before .before .before .enqueue .ensures _ _ _ _ _ _)
+returns-7 c = rw (c .before .before .before .before .before .before .before .before .before .before .before .before .before .before .before .before .call6 .given .1, c .with-heap .ensures) (enqueue-with _ _ _ (c .before .before .before .before .before .before .before .before .before .enqueue .ensures))
 
 returns-8 : tie.Need-returns-8
 returns-8 c = rw (c .before .before .before .before .before .before .before .before .before .before .before .before .before .before .before .before .before .before .before .before .before .before .before .before .before .call7 .given .1) (c .before .before .before .before .before .before .before .before .before .before .before .before .before .before .learn-unit .ensures _ _ _)
@@ -71,102 +65,6 @@ returns-10 c = rw (c .before .before .before .before .before .before .before .be
 
 returns-11 : tie.Need-returns-11
 returns-11 c = rw (c .before .enum-told2 .given .1) (c .group .ensures _ _ _ _ _ _ _ _ _ _ _ _)
-
-same-length : tie.Need-same-length
-same-length c = c .before .before .before .before .before .before .bump .kept .1 .0
-
-same-length-2 : tie.Need-same-length-2
-same-length-2 c = c .before .before .before .before .before .before .bump .kept .1 .1 .0
-
-same-length-3 : tie.Need-same-length-3
-same-length-3 c = c .before .before .before .before .before .before .bump .kept .1 .1 .1 .0
-
-same-length-5 : tie.Need-same-length-5
-same-length-5 c = c .before .before .before .before .insert .kept .1 .1 .0
-
-same-length-6 : tie.Need-same-length-6
-same-length-6 c = c .before .before .before .before .insert .kept .1 .1 .1 .0
-
-same-length-8 : tie.Need-same-length-8
-same-length-8 c = c .before .before .switch-off .kept .1 .0
-
-same-length-9 : tie.Need-same-length-9
-same-length-9 c = c .before .before .before .before .before .before .before .before .before .before .before .before .decide .kept .0
-
-same-length-10 : tie.Need-same-length-10
-same-length-10 c = c .before .before .before .before .before .before .before .before .before .before .before .before .decide .kept .1 .0
-
-same-length-12 : tie.Need-same-length-12
-same-length-12 c = c .before .before .before .before .before .before .before .before .before .before .before .before .decide .kept .1 .1 .1 .0
-
-same-length-13 : tie.Need-same-length-13
-same-length-13 c = c .before .before .before .before .before .before .before .before .before .before .before .before .decide .kept .1 .1 .1 .1 .0
-
-same-length-15 : tie.Need-same-length-15
-same-length-15 c = c .before .before .before .before .before .before .before .before .before .before .before .before .decide .kept .1 .1 .1 .1 .1 .1 .0
-
-same-length-16 : tie.Need-same-length-16
-same-length-16 c = c .before .before .before .before .before .before .before .before .before .before .before .before .decide .kept .1 .1 .1 .1 .1 .1 .1 .0
-
-same-length-18 : tie.Need-same-length-18
-same-length-18 c = c .before .before .before .before .before .before .before .before .enqueue .kept .1 .1 .0
-
-same-length-19 : tie.Need-same-length-19
-same-length-19 c = c .before .before .before .before .before .before .before .before .enqueue .kept .1 .1 .1 .0
-
-same-length-20 : tie.Need-same-length-20
-same-length-20 c = c .before .before .before .before .before .before .before .before .enqueue .kept .1 .1 .1 .1 .0
-
-same-length-21 : tie.Need-same-length-21
-same-length-21 c = c .before .before .before .before .before .before .before .before .enqueue .kept .1 .1 .1 .1 .1 .0
-
-same-length-23 : tie.Need-same-length-23
-same-length-23 c = c .before .before .before .before .before .before .before .before .before .before .before .before .before .before .learn-unit .kept .1 .0
-
-same-length-24 : tie.Need-same-length-24
-same-length-24 c = c .before .before .before .before .before .before .before .before .before .before .before .before .before .before .learn-unit .kept .1 .1 .0
-
-same-length-25 : tie.Need-same-length-25
-same-length-25 c = c .before .before .before .before .before .before .before .before .before .before .before .before .before .before .learn-unit .kept .1 .1 .1 .0
-
-same-length-26 : tie.Need-same-length-26
-same-length-26 c = c .before .before .before .before .before .before .before .before .before .before .before .before .before .before .learn-unit .kept .1 .1 .1 .1 .0
-
-same-length-27 : tie.Need-same-length-27
-same-length-27 c = c .before .before .before .before .before .before .before .before .before .before .before .before .before .before .learn-unit .kept .1 .1 .1 .1 .1 .0
-
-same-length-29 : tie.Need-same-length-29
-same-length-29 c = c .before .before .before .before .before .before .before .before .before .before .before .before .before .before .learn-unit .kept .1 .1 .1 .1 .1 .1 .1 .0
-
-same-length-30 : tie.Need-same-length-30
-same-length-30 c = c .before .before .before .before .before .before .before .before .before .before .before .before .before .before .learn-unit .kept .1 .1 .1 .1 .1 .1 .1 .1 .0
-
-same-length-32 : tie.Need-same-length-32
-same-length-32 c = c .before .before .before .before .before .before .before .before .before .before .before .before .go-back .kept .0
-
-same-length-34 : tie.Need-same-length-34
-same-length-34 c = c .before .before .before .before .before .before .before .before .before .before .before .before .go-back .kept .1 .1 .0
-
-same-length-35 : tie.Need-same-length-35
-same-length-35 c = c .before .before .before .before .before .before .before .before .before .before .before .before .go-back .kept .1 .1 .1 .0
-
-same-length-36 : tie.Need-same-length-36
-same-length-36 c = c .before .before .before .before .before .before .before .before .before .before .before .before .go-back .kept .1 .1 .1 .1 .0
-
-same-length-38 : tie.Need-same-length-38
-same-length-38 c = c .before .before .before .before .before .before .before .before .before .before .before .before .go-back .kept .1 .1 .1 .1 .1 .1 .0
-
-same-length-39 : tie.Need-same-length-39
-same-length-39 c = c .before .before .before .before .before .before .before .before .before .before .before .before .go-back .kept .1 .1 .1 .1 .1 .1 .1 .0
-
-same-length-42 : tie.Need-same-length-42
-same-length-42 c = c .before .before .before .before .before .before .bump-reason .kept .1 .1 .1 .1 .0
-
-same-length-43 : tie.Need-same-length-43
-same-length-43 c = c .before .before .before .before .before .before .bump-reason .kept .1 .1 .1 .1 .1 .0
-
-same-length-44 : tie.Need-same-length-44
-same-length-44 c = c .before .before .before .before .before .before .bump-reason .kept .1 .1 .1 .1 .1 .1 .0
 
 pub step-spec : {M : Type 1} → statement M
 step-spec =
@@ -186,6 +84,7 @@ step-spec =
     decide-requires
     (λ c. search needs)
     enqueue-requires
+    (λ c κs. search needs)
     (λ c. search needs)
     learn-unit-requires
     (λ c. search needs)
@@ -194,58 +93,58 @@ step-spec =
     bump-reason-requires
     (λ c. search needs)
     (λ c κs. search needs)
-    same-length
-    same-length-2
-    same-length-3
+    (λ c. c .before .before .before .before .before .before .bump .kept .1 .0)
+    (λ c. c .before .before .before .before .before .before .bump .kept .1 .1 .0)
+    (λ c. c .before .before .before .before .before .before .bump .kept .1 .1 .1 .0)
     returns
     returns-2
     returns-3
-    (λ c. search needs)
-    same-length-5
-    same-length-6
-    (λ c. search needs)
+    (λ c. refl)
+    (λ c. c .before .before .before .before .insert .kept .1 .1 .0)
+    (λ c. c .before .before .before .before .insert .kept .1 .1 .1 .0)
+    (λ c. refl)
     returns-4
-    same-length-8
+    (λ c. c .before .before .switch-off .kept .1 .0)
     returns-5
-    same-length-9
-    same-length-10
-    (λ c. search needs)
-    same-length-12
-    same-length-13
-    (λ c. search needs)
-    same-length-15
-    same-length-16
-    (λ c. search needs)
+    (λ c. c .before .before .before .before .before .before .before .before .before .before .before .before .decide .kept .0)
+    (λ c. c .before .before .before .before .before .before .before .before .before .before .before .before .decide .kept .1 .0)
+    (λ c. refl)
+    (λ c. c .before .before .before .before .before .before .before .before .before .before .before .before .decide .kept .1 .1 .1 .0)
+    (λ c. c .before .before .before .before .before .before .before .before .before .before .before .before .decide .kept .1 .1 .1 .1 .0)
+    (λ c. refl)
+    (λ c. c .before .before .before .before .before .before .before .before .before .before .before .before .decide .kept .1 .1 .1 .1 .1 .1 .0)
+    (λ c. c .before .before .before .before .before .before .before .before .before .before .before .before .decide .kept .1 .1 .1 .1 .1 .1 .1 .0)
+    (λ c. refl)
     returns-6
-    same-length-18
-    same-length-19
-    same-length-20
-    same-length-21
-    (λ c. search needs)
+    (λ c. c .before .before .before .before .before .before .before .before .before .enqueue .kept .1 .1 .0)
+    (λ c. c .before .before .before .before .before .before .before .before .before .enqueue .kept .1 .1 .1 .0)
+    (λ c. c .before .before .before .before .before .before .before .before .before .enqueue .kept .1 .1 .1 .1 .0)
+    (λ c. c .before .before .before .before .before .before .before .before .before .enqueue .kept .1 .1 .1 .1 .1 .0)
+    (λ c. refl)
     returns-7
-    same-length-23
-    same-length-24
-    same-length-25
-    same-length-26
-    same-length-27
-    (λ c. search needs)
-    same-length-29
-    same-length-30
-    (λ c. search needs)
+    (λ c. c .before .before .before .before .before .before .before .before .before .before .before .before .before .before .learn-unit .kept .1 .0)
+    (λ c. c .before .before .before .before .before .before .before .before .before .before .before .before .before .before .learn-unit .kept .1 .1 .0)
+    (λ c. c .before .before .before .before .before .before .before .before .before .before .before .before .before .before .learn-unit .kept .1 .1 .1 .0)
+    (λ c. c .before .before .before .before .before .before .before .before .before .before .before .before .before .before .learn-unit .kept .1 .1 .1 .1 .0)
+    (λ c. c .before .before .before .before .before .before .before .before .before .before .before .before .before .before .learn-unit .kept .1 .1 .1 .1 .1 .0)
+    (λ c. refl)
+    (λ c. c .before .before .before .before .before .before .before .before .before .before .before .before .before .before .learn-unit .kept .1 .1 .1 .1 .1 .1 .1 .0)
+    (λ c. c .before .before .before .before .before .before .before .before .before .before .before .before .before .before .learn-unit .kept .1 .1 .1 .1 .1 .1 .1 .1 .0)
+    (λ c. refl)
     returns-8
-    same-length-32
-    (λ c. search needs)
-    same-length-34
-    same-length-35
-    same-length-36
-    (λ c. search needs)
-    same-length-38
-    same-length-39
-    (λ c. search needs)
+    (λ c. c .before .before .before .before .before .before .before .before .before .before .before .before .go-back .kept .0)
+    (λ c. refl)
+    (λ c. c .before .before .before .before .before .before .before .before .before .before .before .before .go-back .kept .1 .1 .0)
+    (λ c. c .before .before .before .before .before .before .before .before .before .before .before .before .go-back .kept .1 .1 .1 .0)
+    (λ c. c .before .before .before .before .before .before .before .before .before .before .before .before .go-back .kept .1 .1 .1 .1 .0)
+    (λ c. refl)
+    (λ c. c .before .before .before .before .before .before .before .before .before .before .before .before .go-back .kept .1 .1 .1 .1 .1 .1 .0)
+    (λ c. c .before .before .before .before .before .before .before .before .before .before .before .before .go-back .kept .1 .1 .1 .1 .1 .1 .1 .0)
+    (λ c. refl)
     returns-9
-    (λ c. search needs)
-    same-length-42
-    same-length-43
-    same-length-44
+    (λ c. refl)
+    (λ c. c .before .before .before .before .before .before .bump-reason .kept .1 .1 .1 .1 .0)
+    (λ c. c .before .before .before .before .before .before .bump-reason .kept .1 .1 .1 .1 .1 .0)
+    (λ c. c .before .before .before .before .before .before .bump-reason .kept .1 .1 .1 .1 .1 .1 .0)
     returns-10
     returns-11)

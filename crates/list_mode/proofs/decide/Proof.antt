@@ -1,39 +1,40 @@
 -- `list_mode::decide` meets its contract: by what `get_next` found; the variable that it picks has room on the trail.
-use Prim.Native.Nat.{_<_}
-use lib.ListN.{length}
-use mathlib.Core.Path.{sym, _∙_}
-use mathlib.Core.List.{[]}
+use mathlib.Core.Path.{refl, sym, ap, subst, _∙_}
 use native.Mathlib.Omega.{arith}
-use Rattle.trail.specs.Laws.{level-len, room-for, room-var}
-use Rattle.list_mode.proofs.Needed.{picked, picked-free}
-use Rattle.list_mode.proofs.Outcomes.{no-polarity, chosen, none-open, stuck}
+use borrow.Author.Tests.{le-ltb}
+use Rattle.trail.specs.Laws.{not-assigned}
+use Rattle.vmtf.specs.Good.{good-ends}
+use Rattle.vmtf.specs.Choice.{NextIs, next-right}
+use Rattle.book.specs.Session.{call}
+use Rattle.choosers.specs.List.{nextOf}
+use Rattle.calls.specs.Outcomes.{failed, chosen, none-open, past-open}
+use Rattle.calls.specs.OnTrail.{decision-room}
 use borrow.Author.Needs.{needs}
 use Rattle.list_mode.proofs.decide.Statement.{statement}
 use Rattle.list_mode.proofs.decide.Tie as tie
 
 returns : tie.Need-returns
-returns c = λ n m lits prev ts. rw (c .refuse .ensures) (no-polarity n m lits _ _ (c .before .if1 .taken))
+unfolding call
+returns c = λ n m lits prev ts. rw (c .refuse .ensures) (failed _ (le-ltb _ _ (c .before .if1 .taken)))
+
+get-next-requires : tie.Need-get-next-requires
+get-next-requires c κs = let k = c .before .before .before .before .before .before .before .before .before .before .pre in (good-ends (k .list .1), sym (k .list .1 .linked .next-long))
 
 enq-decision-requires : tie.Need-enq-decision-requires
 enq-decision-requires c κs =
-    let s = c .before .before .before .before .before .before .before .before .before .before .before .before .before .before .before .before .before .before in
-    let k = s .pre .1 in
-    let p = picked _ _ (k .ends) _ _ (sym (c .before .before .before .before .before .before .before .get-next .ensures [] []) ∙ c .before .before .before .before .before .past .given .1) in
-    let h : c .before .before .before .before .before .past .given .0 .1 .0 < length (s .args .values .now) = omega (arith, p .0, k .next-long) in
-    let room-left = room-for (k .trail) _ h (picked-free (k .trail) _ h (p .1)) in
-    (room-var (k .trail) (k .small) _ h (picked-free (k .trail) _ h (p .1)), (omega (arith, level-len (k .trail), room-left), c .before .before .before .before .before .before .before .before .before .before .before .if1 .left))
-
-enum-told : tie.Need-enum-told
-enum-told c = search needs
+    let k = c .before .before .before .before .before .before .before .before .before .before .before .before .before .before .before .before .before .before .pre in
+    let e = sym (c .before .before .before .before .before .before .before .get-next .ensures (k .prev) (k .ts)) ∙ c .before .before .before .before .before .past .given .1 in
+    let p = subst (NextIs _ _ _ _) e (next-right (k .list .1) _ refl) in
+    decision-room _ _ (k .small) (k .trail) (p .0) (c .before .before .before .before .before .before .before .before .before .before .before .if1 .left) (not-assigned (k .trail) _ (p .0) (p .1))
 
 returns-2 : tie.Need-returns-2
-returns-2 c = λ n m lits prev ts. rw (c .accept .ensures) (chosen n m lits _ _ (c .before .before .before .before .before .before .before .before .before .before .before .before .before .before .before .before .before .before .before .before .before .if1 .left) _ _ _ (sym (c .before .before .before .before .before .before .before .before .before .before .before .before .before .before .before .before .before .get-next .ensures prev ts) ∙ c .before .before .before .before .before .before .before .before .before .before .before .before .before .before .before .past .given .1) (c .before .before .before .before .before .before .before .before .before .enq-decision .ensures))
+returns-2 c = λ n m lits prev ts. rw (c .accept .ensures) (chosen (c .before .before .before .before .before .before .before .before .before .before .before .before .before .before .before .before .before .before .before .before .before .if1 .left) (ap (nextOf _) (sym (c .before .before .before .before .before .before .before .before .before .before .before .before .before .before .before .before .before .get-next .ensures prev ts) ∙ c .before .before .before .before .before .before .before .before .before .before .before .before .before .before .before .past .given .1)) (c .before .before .before .before .before .before .before .before .before .enq-decision .ensures))
 
 returns-3 : tie.Need-returns-3
-returns-3 c = λ n m lits prev ts. rw (c .accept2 .ensures) (none-open n m lits _ _ (c .before .before .before .before .before .before .before .if1 .left) (sym (c .before .before .before .get-next .ensures prev ts) ∙ c .before .enum-told .given .1))
+returns-3 c = λ n m lits prev ts. rw (c .accept2 .ensures) (none-open (c .before .before .before .before .before .before .before .if1 .left) (ap (nextOf _) (sym (c .before .before .before .get-next .ensures prev ts) ∙ c .before .enum-told .given .1)))
 
 returns-4 : tie.Need-returns-4
-returns-4 c = λ n m lits prev ts. rw (c .refuse2 .ensures) (stuck n m lits _ _ (c .before .before .before .before .before .before .before .if1 .left) (sym (c .before .before .before .get-next .ensures prev ts) ∙ c .before .enum-told2 .given .1))
+returns-4 c = λ n m lits prev ts. rw (c .refuse2 .ensures) (past-open (c .before .before .before .before .before .before .before .if1 .left) (ap (nextOf _) (sym (c .before .before .before .get-next .ensures prev ts) ∙ c .before .enum-told2 .given .1)))
 
 pub decide-spec : {M : Type 1} → statement M
 decide-spec =
@@ -41,21 +42,21 @@ decide-spec =
     (tie.spec
     (λ c κs. search needs)
     returns
-    (λ c κs. search needs)
+    get-next-requires
     (λ c. search needs)
     (λ c. search needs)
     enq-decision-requires
     (λ c κs. search needs)
-    enum-told
-    (λ c κs. search needs)
     (λ c. search needs)
     (λ c κs. search needs)
     (λ c. search needs)
-    (λ c. search needs)
-    (λ c. search needs)
-    (λ c. search needs)
+    (λ c κs. search needs)
+    (λ c. c .before .before .before .before .before .before .before .before .before .enq-decision .kept .0)
+    (λ c. c .before .before .before .before .before .before .before .before .before .enq-decision .kept .1 .0)
+    (λ c. c .before .before .before .before .before .before .before .before .before .enq-decision .kept .1 .1 .1 .0)
+    (λ c. c .before .before .before .before .before .before .before .before .before .enq-decision .kept .1 .1 .1 .1 .0)
     returns-2
-    (λ c. search needs)
+    (λ c. refl)
     returns-3
-    (λ c. search needs)
+    (λ c. refl)
     returns-4)

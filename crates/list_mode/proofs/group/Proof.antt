@@ -5,14 +5,16 @@ use borrow.Author.Tests.{not-true, not-false}
 use lib.ListN.{replicate}
 use Rattle.vmtf.specs.Good.{good-safe}
 use Rattle.vmtf.specs.Sort.{group-apart}
+use Rattle.book.specs.Session.{call, tuned}
+use Rattle.calls.specs.Outcomes.{failed, passed, rechosen}
 use Rattle.list_mode.specs.Kept.{below-at}
-use Rattle.list_mode.proofs.Outcomes.{no-group, moved}
 use borrow.Author.Needs.{needs}
 use Rattle.list_mode.proofs.group.Statement.{statement}
 use Rattle.list_mode.proofs.group.Tie as tie
 
 returns : tie.Need-returns
-returns c = rw (c .refuse .ensures) (λ m lits values levels reasons trail opened. no-group _ m lits _ _ (sym (c .before .before .vars-below .ensures) ∙ not-true _ (c .before .if1 .taken)), (refl, refl))
+unfolding call
+returns c = rw (c .refuse .ensures) (λ m lits values levels reasons trail opened. failed _ (sym (c .before .before .vars-below .ensures) ∙ not-true _ (c .before .if1 .taken)), (refl, refl))
 
 bump-vec-of-vars-requires : tie.Need-bump-vec-of-vars-requires
 bump-vec-of-vars-requires c κs =
@@ -30,11 +32,12 @@ bump-vec-of-vars-requires c κs =
     )
 
 returns-2 : tie.Need-returns-2
+unfolding call tuned
 returns-2 c =
     let s = c .before .before .before .before .before .before .before .before .before .before .before .before .before .before .before .before .before .before .before .before .before .before .before .before .before .before .before in
     let b = c .before .before .before .before .before .before .before .before .before .before .before .bump-vec-of-vars in
     rw (c .accept .ensures) (
-      λ m lits values levels reasons trail opened. moved _ m lits _ _ (sym (c .before .before .before .before .before .before .before .before .before .before .before .before .before .before .before .before .before .before .before .before .vars-below .ensures) ∙ not-false _ (c .before .before .before .before .before .before .before .before .before .before .before .before .before .before .before .before .before .before .before .if1 .left)) _ (b .ensures .0),
+      λ m lits values levels reasons trail opened. passed _ _ (sym (c .before .before .before .before .before .before .before .before .before .before .before .before .before .before .before .before .before .before .before .before .vars-below .ensures) ∙ not-false _ (c .before .before .before .before .before .before .before .before .before .before .before .before .before .before .before .before .before .before .before .if1 .left)) (rechosen (b .ensures .0)),
       (b .ensures .1 .0 ∙ ap (λ k. replicate k 0) (sym (s .pre .1 .0)), b .ensures .1 .1 ∙ ap (λ k. replicate k 0) (sym (s .pre .1 .1))),
     )
 
