@@ -1,4 +1,4 @@
--- Term 3 proved: facts of books, the trail's memory by the book, going back, each call, and the claim.
+-- Term 3 proved: facts of books, the trail's memory by the book, going back, each call, the claim, and the claim of calls behind checks.
 pub mod Books
 pub mod Memory
 pub mod Going
@@ -7,3 +7,4 @@ pub mod Term3
 pub mod Runs
 pub mod Letter
 pub mod Model
+pub mod Guarded

@@ -70,7 +70,7 @@ module _ (n m : ℕ) (O : Operations) (C : Chooser n m O) where
   Owed ls x = NextRight n (valuesOf n (book ls)) (counts (O .switches) ls) (C .ok) x
 
   module _ (s : Session n m O) (ls : List Line) (g : GoodAfter n m O C ls s) where
-    refused : {c : Call} (k : ℕ) → eqb k 0 ≡ false → Kept ls s c (refuse k)
+    pub refused : {c : Call} (k : ℕ) → eqb k 0 ≡ false → Kept ls s c (refuse k)
     unfolding book on
     refused {c} k e = record { good = rw (counts-same (O .switches) (record { call = c; status = k; reply = none }) ls (rw e), e) g; moves = stays }
 

@@ -14,12 +14,12 @@ use Rattle.trail.specs.Trail.{Trail, enqAssignment}
 use Rattle.book.specs.Calls.{Call, decide, learnUnit, Line}
 use Rattle.book.specs.Book.{Book, presentLevel, back, book, openings, valuesOf}
 use Rattle.book.specs.Chooser.{Next, chose, nothing, stuck, Operations, Chooser}
-use Rattle.book.specs.Session.{done, status, reply, leaves, need, Session, fresh, wentBack, enqueued, decided, call}
-use Rattle.book.specs.Claim.{Event, Past, log, Records, recordsOf, recordsIn, SettledBy, Raises, JustBefore, here, earlier, AsThen, Each, Run, begin, step, run, Claim, Term3}
+use Rattle.book.specs.Session.{done, refuse, status, reply, leaves, need, Session, fresh, wentBack, enqueued, decided, call}
+use Rattle.book.specs.Claim.{Event, Past, log, Records, recordsOf, recordsIn, SettledBy, Raises, JustBefore, here, earlier, AsThen, Each, Run, begin, extended, step, run, Claim, Term3}
 use Rattle.book.proofs.Books.{length-openings, Seen, raised, over, seen, fine-nil}
 use Rattle.book.proofs.Memory.{fresh-holds, told}
 use Rattle.book.proofs.Going.{GoodAfter, went}
-use Rattle.book.proofs.Steps.{counts-nil, Kept, Owed, asked, kept}
+use Rattle.book.proofs.Steps.{counts-nil, Kept, Owed, refused, asked, kept}
 
 -- the records of an event are those in the book before it and after it
 abbrev Moment : ℕ → Event → Past → Type 0
@@ -126,6 +126,23 @@ module _ (n m : ℕ) (O : Operations) (C : Chooser n m O) where
             (λ code e a h. ((wentBack n m O 0 s) .trail, as-then s (r .past) (i .good) (i .moments) 0 h, rw e (unit-after s code (rw e at a)))),
             i .claim .unitRight,
           );
+        };
+      }
+
+  -- a call that is refused, on whatever grounds
+  pub turned-down : (r : Run n m O) (c : Call) (k : ℕ) → eqb k 0 ≡ false → Inv r → Inv (extended n m O r c (refuse k))
+  unfolding Each
+  turned-down r c k z i =
+      let g : Kept n m O C (log (r .past)) (r .now) c (refuse k) = refused n m O C (r .now) (log (r .past)) (i .good) k z in
+      let never : eqb k 0 ≡ true → ⊥ = λ a. false≢true (sym z ∙ a) in
+      record {
+        good = g .good;
+        moments = ((told (i .good .holds), told (g .good .holds)), i .moments);
+        claim = record {
+          told = told (g .good .holds);
+          noneRight = ((λ p e a. absurd (never a)), i .claim .noneRight);
+          backRight = ((λ l e a h. absurd (never a)), i .claim .backRight);
+          unitRight = ((λ code e a h. absurd (never a)), i .claim .unitRight);
         };
       }
 

@@ -12,7 +12,7 @@ use Rattle.trail.specs.Trail.{Trail, enqAssignment}
 use Rattle.book.specs.Calls.{Call, decide, learnUnit, goBack, Line, accepted}
 use Rattle.book.specs.Book.{Book, presentLevel, book, codes, openings, valuesOf, reasonsOf, levelsOf, counts}
 use Rattle.book.specs.Chooser.{Settled, Operations}
-use Rattle.book.specs.Session.{status, reply, leaves, Session, fresh, call}
+use Rattle.book.specs.Session.{Result, status, reply, leaves, Session, fresh, call}
 
 -- a call of a run: its line in the log, and the trail before and after it
 pub record Event : Type 0 where
@@ -115,15 +115,15 @@ module _ (n m : ℕ) (O : Operations) where
   unfoldable pub begin : Run
   begin = record { now = fresh n m O; past = [] }
 
-  -- 'each call getting the state the last one left and nobody else writing it'
+  -- the run with one more call, and what it came to: 'each call getting the state the last one left and nobody else writing it'
+  abbrev pub extended : Run → Call → Result (Session n m O) → Run
+  extended r c x = let next = leaves (r .now) x in record {
+    now = next;
+    past = record { line = record { call = c; status = status x; reply = reply x }; before = r .now .trail; after = next .trail } ∷ r .past;
+  }
+
   unfoldable pub step : Run → Call → Run
-  step r c =
-      let x = call n m O (r .now) c in
-      let next = leaves (r .now) x in
-      record {
-        now = next;
-        past = record { line = record { call = c; status = status x; reply = reply x }; before = r .now .trail; after = next .trail } ∷ r .past;
-      }
+  step r c = extended r c (call n m O (r .now) c)
 
   unfoldable pub run : Run → List Call → Run
   run r [] = r

@@ -117,3 +117,13 @@ heap-chooser n lits ends small g = record {
           switched = same-switches (kept.bumpAll-switches (drop 1 (clause lits ends r)) c) (q .switched);
         }))
     tuned (bumpVecOfVars vs) c f q = q
+
+-- which states it calls good
+module _ (n : ℕ) (lits ends : List ℕ) (small : n ≤ maxVars) (g : GoodClauses n lits ends) {values : List ℕ} {on : ℕ → Bool} {h : Vsids} where
+  pub heap-ok : HeapOk n values on h → heap-chooser n lits ends small g .ok values on h
+  unfolding heap-chooser
+  heap-ok q = q
+
+  pub ok-heap : heap-chooser n lits ends small g .ok values on h → HeapOk n values on h
+  unfolding heap-chooser
+  ok-heap q = q

@@ -86,3 +86,13 @@ list-chooser n m lits small = record {
     tuned (setVarDecay d) c h q = q
     tuned (bumpReasonLiterals r) c h q = q
     tuned (bumpVecOfVars vs) c h q = record { values-long = q .values-long; all-on = q .all-on; order = _; good = group-good vs (below-each n vs h) (q .good) }
+
+-- which states it calls good
+module _ (n m : ℕ) (lits : List ℕ) (small : n ≤ NONE) {values : List ℕ} {on : ℕ → Bool} {l : Vmtf} where
+  pub list-ok : ListOk n values on l → list-chooser n m lits small .ok values on l
+  unfolding list-chooser
+  list-ok q = q
+
+  pub ok-list : list-chooser n m lits small .ok values on l → ListOk n values on l
+  unfolding list-chooser
+  ok-list q = q

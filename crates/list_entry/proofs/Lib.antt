@@ -1,2 +1,2 @@
--- What the proofs of the entry points need: the answers of the checks.
+-- What the proof of the entry point needs: what a refused call leaves.
 pub mod Entering

@@ -1,11 +1,11 @@
--- What the entry points' checks show: the check of a state passes exactly the good sessions.
+-- What the checks of list mode show: the check of a state passes exactly the good sessions, and every call keeps them.
 use Prim.Native.Nat.{ℕ, _≤_}
-use mathlib.Core.Path.{_≡_}
+use mathlib.Core.Path.{_≡_, refl}
 use mathlib.Core.Logic.{_↔_}
-use mathlib.Core.Bool.{Bool, true, _&&_}
+use mathlib.Core.Bool.{true}
 use mathlib.Core.List.{List}
 use native.Mathlib.Omega.{arith}
-use borrow.Author.Tests.{eqb-true}
+use borrow.Author.Tests.{eqb-true, eq-eqb}
 use lib.ListN.{length}
 use lib.Dec.{eqb}
 use Rattle.laws.specs.Tests.{and-left, and-right, and-both}
@@ -16,48 +16,63 @@ use Rattle.trail.specs.Check.{trailOk}
 use Rattle.trail.specs.Checked.{trail-right}
 use Rattle.vmtf.specs.Vmtf.{Vmtf, checkList}
 use Rattle.vmtf.specs.Check.{check-good}
+use Rattle.choosers.specs.List.{listOps, list-chooser, list-ok, ok-list}
+use Rattle.book.specs.Calls.{Call}
+use Rattle.book.specs.Session.{Session, leaves, call}
+use Rattle.entry.specs.Sizes.{both}
+use Rattle.entry.specs.Kept as either
+use Rattle.entry.specs.Entered.{Sound}
 use Rattle.list_mode.specs.Good.{GoodSession}
-use Rattle.list_entry.specs.Entry.{trailLengths, listLengths, scratchLengths, clauseLengths, lengthsOk, stateOk, Sizes}
+use Rattle.list_mode.specs.Kept.{IsGood, fresh-good-session}
+use Rattle.list_entry.specs.Entry.{listLengths, stateOk, listMode}
 
--- what the tests of lengths say
-pub sizes-right : (n : ℕ) (t : Trail) (l : Vmtf) (k a b literals clauses : ℕ) (lits ends : List ℕ)
-    → lengthsOk n t l k a b literals clauses lits ends ≡ true → Sizes n t l k a b literals clauses lits ends
-unfolding lengthsOk
-sizes-right n t l k a b literals clauses lits ends e =
-    let session = and-left (trailLengths n t && listLengths n l) _ e in
-    let other = and-right (trailLengths n t && listLengths n l) _ e in
-    let p1 = and-left (trailLengths n t) _ session in
-    let p2 = and-right (eqb (length (t .values)) n) _ p1 in
-    let p3 = and-right (eqb (length (t .levels)) n) _ p2 in
-    let p4 = and-right (eqb (length (t .reasons)) n) _ p3 in
-    let q1 = and-right (trailLengths n t) _ session in
-    let q2 = and-right (eqb (length (l .next)) n) _ q1 in
-    let r1 = and-left (scratchLengths k a b) _ other in
-    let r2 = and-right (scratchLengths k a b) _ other in
-    record {
-      values-long = eqb-true _ _ (and-left (eqb (length (t .values)) n) _ p1);
-      levels-long = eqb-true _ _ (and-left (eqb (length (t .levels)) n) _ p2);
-      reasons-long = eqb-true _ _ (and-left (eqb (length (t .reasons)) n) _ p3);
-      trail-long = eqb-true _ _ (and-left (eqb (length (t .trail)) n) _ p4);
-      opened-long = eqb-true _ _ (and-right (eqb (length (t .trail)) n) _ p4);
-      next-long = eqb-true _ _ (and-left (eqb (length (l .next)) n) _ q1);
-      prev-long = eqb-true _ _ (and-left (eqb (length (l .prev)) n) _ q2);
-      ts-long = eqb-true _ _ (and-right (eqb (length (l .prev)) n) _ q2);
-      first-long = eqb-true _ _ (and-left (eqb a k) _ r1);
-      second-long = eqb-true _ _ (and-right (eqb a k) _ r1);
-      lits-long = eqb-true _ _ (and-left (eqb (length lits) literals) _ r2);
-      ends-long = eqb-true _ _ (and-right (eqb (length lits) literals) _ r2);
-    }
+-- what the test of the list's lengths says
+pub record ListSized (n : ℕ) (l : Vmtf) : Type 0 where
+  pub next-long : length (l .next) ≡ n
+  pub prev-long : length (l .prev) ≡ n
+  pub ts-long : length (l .ts) ≡ n
+
+pub list-sized : (n : ℕ) (l : Vmtf) → listLengths n l ≡ true → ListSized n l
+list-sized n l e =
+    let z = both _ _ _ _ (and-right (eqb (length (l .next)) n) _ e) in
+    record { next-long = eqb-true _ _ (and-left (eqb (length (l .next)) n) _ e); prev-long = z .0; ts-long = z .1 }
+
+pub sized-list : (n : ℕ) (l : Vmtf) → ListSized n l → listLengths n l ≡ true
+sized-list n l z = rw (eq-eqb _ _ (z .next-long), eq-eqb _ _ (z .prev-long), eq-eqb _ _ (z .ts-long))
 
 -- for memory of the right lengths: the check passes exactly the good sessions
-pub state-right : (n m : ℕ) (t : Trail) (l : Vmtf) → n ≤ maxVars → Sized n t → length (l .next) ≡ n → length (l .prev) ≡ n → length (l .ts) ≡ n
-    → (stateOk m t l ≡ true) ↔ GoodSession n m t l
+pub state-right : (n m : ℕ) (t : Trail) (l : Vmtf) → n ≤ maxVars → Sized n t → ListSized n l → (stateOk m t l ≡ true) ↔ GoodSession n m t l
 unfolding stateOk
-state-right n m t l small sized en ep et = (
+state-right n m t l small sized z = (
   λ e. record {
     small = small;
     trail = trail-right n m t sized .0 (and-left (trailOk m t) (checkList l) e);
-    list = check-good n l (omega arith) en ep et .0 (and-right (trailOk m t) (checkList l) e);
+    list = check-good n l (omega arith) (z .next-long) (z .prev-long) (z .ts-long) .0 (and-right (trailOk m t) (checkList l) e);
   },
-  λ g. and-both (trail-right n m t sized .1 (g .trail)) (check-good n l (omega arith) en ep et .1 (g .list)),
+  λ g. and-both (trail-right n m t sized .1 (g .trail)) (check-good n l (omega arith) (z .next-long) (z .prev-long) (z .ts-long) .1 (g .list)),
 )
+
+-- every call leaves a good session, refused or not
+pub kept : (n m : ℕ) (lits : List ℕ) (s : Session n m (listOps n lits)) → IsGood n m lits s → (c : Call) → IsGood n m lits (leaves s (call n m (listOps n lits) s c))
+kept n m lits s g c =
+    let few : n ≤ NONE = omega (arith, g .small) in
+    let k = either.kept n m (listOps n lits) (list-chooser n m lits few) s (record {
+      trail = g .trail;
+      on = λ v. true;
+      ok = list-ok n m lits few (record { values-long = g .trail .lengths .values-long; all-on = λ v. refl; order = g .list .0; good = g .list .1 });
+    }) c in
+    let l = ok-list n m lits few (k .ok) in
+    record { small = g .small; trail = k .trail; list = (l .order, l .good) }
+
+unfoldable pub list-sound : (n m : ℕ) (lits ends : List ℕ) → Sound n m (listMode n m lits) lits ends
+list-sound n m lits ends = record {
+  Good = IsGood n m lits;
+  Typed = λ l. Unit {0};
+  right = λ s small _ _ sized long _. state-right n m (s .trail) (s .chooser) small sized (list-sized n (s .chooser) long);
+  small = λ s g. g .small;
+  trail-sized = λ s g. g .trail .lengths;
+  chooser-sized = λ s g. sized-list n (s .chooser) (record { next-long = g .list .1 .linked .next-long; prev-long = g .list .1 .linked .prev-long; ts-long = g .list .1 .ts-long });
+  chooser-typed = λ s g. tt;
+  fresh-good = λ small _ _. fresh-good-session n m lits small;
+  kept = kept n m lits;
+}

@@ -3,3 +3,4 @@ pub mod Entry
 pub mod Checked
 pub mod Entered
 pub mod Term3
+pub mod Term2

@@ -1,7 +1,7 @@
--- `list_entry::clause_lengths` meets its contract: by its tests.
+-- `entry::clause_lengths` meets its contract: by its tests.
 use borrow.Author.Tests.{eq-eqb, ne-eqb}
-use Rattle.list_entry.proofs.clause_lengths.Statement.{statement}
-use Rattle.list_entry.proofs.clause_lengths.Tie as tie
+use Rattle.entry.proofs.clause_lengths.Statement.{statement}
+use Rattle.entry.proofs.clause_lengths.Tie as tie
 
 returns : tie.Need-returns
 returns c = rw (eq-eqb _ _ (c .if1 .taken))

@@ -1,7 +1,7 @@
--- `list_entry::trail_lengths` meets its contract: by its tests.
+-- `entry::trail_lengths` meets its contract: by its tests.
 use borrow.Author.Tests.{eq-eqb, ne-eqb}
-use Rattle.list_entry.proofs.trail_lengths.Statement.{statement}
-use Rattle.list_entry.proofs.trail_lengths.Tie as tie
+use Rattle.entry.proofs.trail_lengths.Statement.{statement}
+use Rattle.entry.proofs.trail_lengths.Tie as tie
 
 returns : tie.Need-returns
 returns c = λ s. rw (eq-eqb _ _ (c .before .before .before .if1 .taken), eq-eqb _ _ (c .before .before .if2 .taken), eq-eqb _ _ (c .before .if3 .taken), eq-eqb _ _ (c .if4 .taken))

@@ -1,0 +1,138 @@
+-- What holds of the entry points in either mode: on good memory a checked call is the call, from any other it is refused, and where it is
+-- accepted it leaves a good session; and term 3.
+use Prim.Native.Nat.{ℕ, _≤_}
+use mathlib.Core.Path.{_≡_, refl, sym}
+use mathlib.Core.Logic.{_↔_}
+use mathlib.Core.Bool.{Bool, true}
+use mathlib.Core.Option.{none}
+use mathlib.Core.List.{List}
+use borrow.Author.Tests.{eq-eqb}
+use lib.ListN.{length}
+use Rattle.laws.specs.Tests.{and-both}
+use Rattle.lit.specs.Numbers.{maxVars}
+use Rattle.formula.specs.Clauses.{clausesOk}
+use Rattle.formula.specs.Good.{GoodClauses, clauses-facts}
+use Rattle.trail.specs.Memory.{Sized}
+use Rattle.book.specs.Calls.{Call}
+use Rattle.book.specs.Chooser.{Chooser}
+use Rattle.book.specs.Session.{done, status, leaves, Session, fresh, call}
+use Rattle.book.specs.Claim.{Run, begin, Claim}
+use Rattle.book.specs.Guarded.{Guarded, runBy}
+use Rattle.book.proofs.Guarded.{guarded-term3, throughout}
+use Rattle.entry.specs.Asked.{Asked, asked}
+use Rattle.entry.specs.Checks.{sizeRefusal, stateRefusal, Passed, size-passed, state-passed, passed-none, size-accepted, accepted, size-zero, checked-zero, checked-guarded}
+use Rattle.entry.specs.Mode.{scratchLengths, Mode, lengthsOk, entered, made}
+use Rattle.entry.specs.Sizes.{both, Sizes, sizes-right, right-sizes}
+
+-- What a mode owes: which sessions are good, that the check passes exactly these, and that every call keeps them.
+pub record Sound (n m : ℕ) (M : Mode) (lits ends : List ℕ) : Type 1 where
+  pub Good : Session n m (M .ops) → Type 0
+  -- what the types of the lent slices say of the chooser's memory
+  pub Typed : M .ops .State → Type 0
+  pub right : (s : Session n m (M .ops)) → n ≤ maxVars → length ends ≡ m → GoodClauses n lits ends → Sized n (s .trail) → M .lengths (s .chooser) ≡ true
+      → Typed (s .chooser) → (M .state (s .trail) (s .chooser) ≡ true) ↔ Good s
+  pub small : (s : Session n m (M .ops)) → Good s → n ≤ maxVars
+  pub trail-sized : (s : Session n m (M .ops)) → Good s → Sized n (s .trail)
+  pub chooser-sized : (s : Session n m (M .ops)) → Good s → M .lengths (s .chooser) ≡ true
+  pub chooser-typed : (s : Session n m (M .ops)) → Good s → Typed (s .chooser)
+  pub fresh-good : n ≤ maxVars → length ends ≡ m → GoodClauses n lits ends → Good (fresh n m (M .ops))
+  pub kept : (s : Session n m (M .ops)) → Good s → (c : Call) → Good (leaves s (call n m (M .ops) s c))
+
+-- 'for a group's scratch the group's length'
+pub record RightScratch (a : Asked) : Type 0 where
+  pub stamps-long : length (a .stamps) ≡ length (a .vars)
+  pub order-long : length (a .order) ≡ length (a .vars)
+
+module _ (n m : ℕ) (M : Mode) (lits : List ℕ) (literals : ℕ) (ends : List ℕ) (L : Sound n m M lits ends) where
+  -- the memory that was lent is good: the lengths, the clause list and the session
+  pub record GoodMemory (a : Asked) (s : Session n m (M .ops)) : Type 0 where
+    pub sizes : Sizes n m M lits literals ends s
+    pub scratch : RightScratch a
+    pub clauses : GoodClauses n lits ends
+    pub session : L .Good s
+
+  -- a good session over a good clause list with the stated counts is good memory
+  pub good-memory : length lits ≡ literals → length ends ≡ m → GoodClauses n lits ends → (a : Asked) → RightScratch a → (s : Session n m (M .ops)) → L .Good s → GoodMemory a s
+  good-memory el em g a z s k = record {
+    sizes = record { trail = L .trail-sized s k; chooser = L .chooser-sized s k; lits-long = el; ends-long = em };
+    scratch = z;
+    clauses = g;
+    session = k;
+  }
+
+  module _ (a : Asked) (s : Session n m (M .ops)) where
+    abbrev scratch : Bool
+    scratch = scratchLengths (length (a .vars)) (length (a .stamps)) (length (a .order))
+
+    -- memory without a refusal is good
+    pub admitted : L .Typed (s .chooser) → 0 ≡ stateRefusal n (lengthsOk n m M lits literals ends s scratch) (clausesOk n lits ends) (M .state (s .trail) (s .chooser)) → GoodMemory a s
+    admitted t e =
+        let p = state-passed _ _ _ _ e in
+        let z = sizes-right n m M lits literals ends s scratch (p .0 .lengths-ok) in
+        let l = both _ _ _ _ (z .1) in
+        let g = clauses-facts n lits ends .0 (p .0 .clauses-ok) in
+        record {
+          sizes = z .0;
+          scratch = record { stamps-long = l .0; order-long = l .1 };
+          clauses = g;
+          session = L .right s (p .0 .small) (z .0 .ends-long) g (z .0 .trail) (z .0 .chooser) t .0 (p .1);
+        }
+
+    -- and good memory has none
+    pub unrefused : GoodMemory a s → 0 ≡ stateRefusal n (lengthsOk n m M lits literals ends s scratch) (clausesOk n lits ends) (M .state (s .trail) (s .chooser))
+    unrefused g =
+        let z = g .sizes in
+        let b = L .small s (g .session) in
+        passed-none
+        (record {
+          small = b;
+          lengths-ok = right-sizes n m M lits literals ends s scratch z (and-both (eq-eqb _ _ (g .scratch .stamps-long)) (eq-eqb _ _ (g .scratch .order-long)));
+          clauses-ok = clauses-facts n lits ends .1 (g .clauses);
+        })
+        (L .right s b (z .ends-long) (g .clauses) (z .trail) (z .chooser) (L .chooser-typed s (g .session)) .1 (g .session))
+
+    -- on good memory the checked call is the call
+    pub unchecked : GoodMemory a s → entered n m M lits literals ends a s ≡ call n m (M .ops) s (asked a)
+    unfolding entered
+    unchecked g = accepted n _ _ _ _ (unrefused g)
+
+    -- what is not refused had good memory
+    pub bad-refused : L .Typed (s .chooser) → status (entered n m M lits literals ends a s) ≡ 0 → GoodMemory a s
+    unfolding entered
+    bad-refused t e = admitted t (checked-zero n _ _ _ _ e)
+
+    -- so an accepted call leaves a good session
+    pub entered-good : L .Typed (s .chooser) → status (entered n m M lits literals ends a s) ≡ 0 → L .Good (leaves s (entered n m M lits literals ends a s))
+    entered-good t e = let g = bad-refused t e in rw (unchecked g) (L .kept s (g .session) (asked a))
+
+  -- and creation, where it is accepted, makes one
+  pub made-good : (scratch : Bool) (s : Session n m (M .ops)) → status (made n m M lits literals ends scratch s) ≡ 0 → L .Good (leaves s (made n m M lits literals ends scratch s))
+  unfolding made
+  made-good scratch s e =
+      let k = size-zero n _ _ (done none (fresh n m (M .ops))) e in
+      let p = size-passed n _ _ k in
+      let z = sizes-right n m M lits literals ends s scratch (p .lengths-ok) in
+      rw (size-accepted n _ _ (done none (fresh n m (M .ops))) k) (L .fresh-good (p .small) (z .0 .ends-long) (clauses-facts n lits ends .0 (p .clauses-ok)))
+
+-- a run as in `book`, of checked calls
+module _ (n m : ℕ) (M : Mode) (lits : List ℕ) (literals : ℕ) (ends : List ℕ) where
+  abbrev pub runChecked : Run n m (M .ops) → List Asked → Run n m (M .ops)
+  runChecked = runBy n m (M .ops) asked (λ s a. entered n m M lits literals ends a s)
+
+  guards : (s : Session n m (M .ops)) (a : Asked) → Guarded (call n m (M .ops) s (asked a)) (entered n m M lits literals ends a s)
+  unfolding entered
+  guards s a = checked-guarded n _ _ _ _
+
+  -- Term 3 of every list of checked calls from a fresh session, whatever scratch is lent with them
+  pub checked-term3 : Chooser n m (M .ops) → (asks : List Asked) → Claim n m (M .ops) (runChecked (begin n m (M .ops)) asks)
+  checked-term3 C asks = guarded-term3 n m (M .ops) asked (λ s a. entered n m M lits literals ends a s) guards C asks
+
+  module _ (L : Sound n m M lits ends) (b : n ≤ maxVars) (em : length ends ≡ m) (g : GoodClauses n lits ends) where
+    -- every session of such a run is good
+    pub run-good : (asks : List Asked) → L .Good ((runChecked (begin n m (M .ops)) asks) .now)
+    run-good asks = throughout n m (M .ops) asked (λ s a. entered n m M lits literals ends a s) guards (L .Good) (L .kept) (L .fresh-good b em g) asks
+
+    -- so a call in it is refused before its own tests only for its scratch
+    pub run-unchecked : length lits ≡ literals → (asks : List Asked) (a : Asked) → RightScratch a → let s = (runChecked (begin n m (M .ops)) asks) .now in
+        entered n m M lits literals ends a s ≡ call n m (M .ops) s (asked a)
+    run-unchecked el asks a z = unchecked n m M lits literals ends L a _ (good-memory n m M lits literals ends L el em g a z _ (run-good asks))
