@@ -1,0 +1,2 @@
+-- The forms of a sheet's lines.
+pub mod Forms

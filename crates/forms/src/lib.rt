@@ -1,0 +1,1 @@
+// The forms of a sheet's lines.

@@ -1,0 +1,2 @@
+-- The text of a call sheet: definitions and laws.
+pub mod Text
