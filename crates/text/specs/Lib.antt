@@ -1,2 +1,3 @@
 -- The text of a call sheet: definitions and laws.
 pub mod Text
+pub mod Read
