@@ -2,3 +2,4 @@
 pub mod Text
 pub mod Read
 pub mod Reading
+pub mod Laws
