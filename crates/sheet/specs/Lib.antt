@@ -1,0 +1,2 @@
+-- The run of a call sheet.
+pub mod Sheet
