@@ -46,7 +46,7 @@ pub struct HeapAnswer {
     pub state: HeapState,
 }
 
-fn accept(reply: u32, s: HeapState) -> HeapAnswer
+pub fn accept(reply: u32, s: HeapState) -> HeapAnswer
     ensures { λ r. ⌜ r ≡ answer 0 reply s ⌝ }
 {
     HeapAnswer {
@@ -56,7 +56,7 @@ fn accept(reply: u32, s: HeapState) -> HeapAnswer
     }
 }
 
-fn refuse(status: u32, s: HeapState) -> HeapAnswer
+pub fn refuse(status: u32, s: HeapState) -> HeapAnswer
     ensures { λ r. ⌜ r ≡ answer status number.NONE s ⌝ }
 {
     HeapAnswer {
