@@ -1,8 +1,8 @@
 -- What the checks of heap mode show: the check of a state passes exactly the good sessions, and every call keeps them.
 use Prim.Native.Nat.{ℕ, _≤_, _<_}
-use mathlib.Core.Path.{_≡_, refl, sym, subst, _∙_}
+use mathlib.Core.Path.{_≡_, sym, subst, _∙_}
 use mathlib.Core.Logic.{_↔_}
-use mathlib.Core.Bool.{true, false}
+use mathlib.Core.Bool.{true}
 use mathlib.Core.List.{List}
 use borrow.Author.Tests.{eqb-true, eq-eqb}
 use lib.Dec.{T, eqb}
@@ -14,7 +14,6 @@ use Rattle.formula.specs.Good.{GoodClauses}
 use Rattle.trail.specs.Trail.{Trail}
 use Rattle.trail.specs.Memory.{Sized}
 use Rattle.vsids.specs.Vsids.{Vsids}
-use Rattle.vsids.specs.Check.{SameLengths}
 use Rattle.entry.specs.Sizes.{both}
 use Rattle.entry.specs.Entered.{Sound}
 use Rattle.heap_mode.specs.Good.{GoodSession}

@@ -1,5 +1,5 @@
 -- From a good session in heap mode every call leaves a good session, refused or not; and a fresh session is good.
-use Prim.Native.Nat.{ℕ, _≤_, _<_}
+use Prim.Native.Nat.{ℕ, _≤_}
 use mathlib.Core.Path.{_≡_, refl, subst}
 use mathlib.Core.Bool.{false}
 use mathlib.Core.List.{List}

@@ -1,9 +1,9 @@
 -- Term 2 in heap mode, on the entry points' own definition: 'members and positions are inverse, and the variable chosen has an activity no
 -- lower than any other member that is switched on and unassigned'.
 use Prim.Native.Nat.{ℕ, _<_}
-use mathlib.Core.Path.{_≡_, refl, sym, _∙_}
+use mathlib.Core.Path.{_≡_, refl, sym}
 use mathlib.Core.Bool.{Bool, true, false}
-use mathlib.Core.Option.{none, some, Option·some-ne-none}
+use mathlib.Core.Option.{some, Option·some-ne-none}
 use mathlib.Core.List.{List}
 use lib.Dec.{T, ltb}
 use lib.Ieee.{nan, le}
@@ -11,7 +11,6 @@ use lib.ListN.{getD}
 use Rattle.lit.specs.Numbers.{badPolarity}
 use Rattle.heap.specs.Order.{Inverse}
 use Rattle.vsids.specs.Vsids.{Vsids, places, isOpen, Found, chose, nothing, getNext}
-use Rattle.vsids.specs.Good.{Chosen}
 use Rattle.vsids.specs.Choice.{chose-right, chosen-highest}
 use Rattle.choosers.specs.Heap.{heapOps, nextOf}
 use Rattle.book.specs.Calls.{decide}

@@ -1,8 +1,6 @@
 -- `heap_fresh::fresh` meets its contract: a refusal is the answer; without one the slices have the lengths that creation needs.
 use mathlib.Core.Path.{refl, sym, ap, _∙_}
-use native.Mathlib.Omega.{arith}
 use borrow.Author.Needs.{needs}
-use borrow.Author.Tests.{ne-eqb}
 use Rattle.trail.specs.Trail.{freshTrail}
 use Rattle.vsids.specs.Vsids.{vsidsOf}
 use Rattle.vsids.specs.Vsids as vsids
