@@ -1,6 +1,6 @@
 -- What the checks of an entry point come to: the first refusal that fits is the answer, and without one the answer is what comes behind.
 use Prim.Native.Nat.{ℕ, _≤_}
-use mathlib.Core.Path.{_≡_, refl, sym, _∙_}
+use mathlib.Core.Path.{_≡_, refl, sym}
 use mathlib.Core.Bool.{Bool, true, false, cond}
 use mathlib.Core.Option.{none}
 use native.Mathlib.Omega.{arith}

@@ -1,7 +1,7 @@
 -- What holds of the entry points in either mode: on good memory a checked call is the call, from any other it is refused, and where it is
 -- accepted it leaves a good session; and term 3.
 use Prim.Native.Nat.{ℕ, _≤_}
-use mathlib.Core.Path.{_≡_, refl, sym}
+use mathlib.Core.Path.{_≡_}
 use mathlib.Core.Logic.{_↔_}
 use mathlib.Core.Bool.{Bool, true}
 use mathlib.Core.Option.{none}
@@ -20,7 +20,7 @@ use Rattle.book.specs.Claim.{Run, begin, Claim}
 use Rattle.book.specs.Guarded.{Guarded, runBy}
 use Rattle.book.proofs.Guarded.{guarded-term3, throughout}
 use Rattle.entry.specs.Asked.{Asked, asked}
-use Rattle.entry.specs.Checks.{sizeRefusal, stateRefusal, Passed, size-passed, state-passed, passed-none, size-accepted, accepted, size-zero, checked-zero, checked-guarded}
+use Rattle.entry.specs.Checks.{stateRefusal, size-passed, state-passed, passed-none, size-accepted, accepted, size-zero, checked-zero, checked-guarded}
 use Rattle.entry.specs.Mode.{scratchLengths, Mode, lengthsOk, entered, made}
 use Rattle.entry.specs.Sizes.{both, Sizes, sizes-right, right-sizes}
 

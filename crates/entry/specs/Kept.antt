@@ -11,7 +11,7 @@ use borrow.Author.Tests.{ltb-true, ltb-false, eqb-true, eq-eqb, lt-ltb, not-true
 use lib.ListN.{length, getD}
 use lib.Dec.{ltb, eqb}
 use Rattle.laws.specs.Choices.{or-right, or-cases}
-use Rattle.lit.specs.Numbers.{NONE, unassigned, pastOpen}
+use Rattle.lit.specs.Numbers.{NONE, unassigned}
 use Rattle.lit.specs.Lits.{index, polarity, isAssigned}
 use Rattle.trail.specs.Trail.{Trail, enqAssignment, enqDecision, backtrackTo, backtrackSafe, undone}
 use Rattle.trail.specs.Good.{valueAt, IsReason, GoodTrail}
@@ -19,8 +19,8 @@ use Rattle.trail.specs.Laws.{enq-good, dec-good}
 use Rattle.trail.specs.Back.{back-good}
 use Rattle.trail.specs.Undone.{undone-in, unset, back-values}
 use Rattle.book.specs.Calls.{Call, bump, decay, setDecay, insert, switchOff, decide, enqueue, learnUnit, goBack, bumpReason, group}
-use Rattle.book.specs.Chooser.{Tune, bumpVariable, decayVarInc, setVarDecay, bumpReasonLiterals, bumpVecOfVars, below, goodReason, fits, Next, chose, nothing, stuck, NextRight, IfSome, Operations, Chooser}
-use Rattle.book.specs.Session.{Result, done, refuse, leaves, need, Session, offerAll, wentBack, enqueued, tuned, decided, call}
+use Rattle.book.specs.Chooser.{Tune, bumpVariable, decayVarInc, setVarDecay, bumpReasonLiterals, bumpVecOfVars, goodReason, fits, Next, chose, nothing, stuck, NextRight, IfSome, Operations, Chooser}
+use Rattle.book.specs.Session.{Result, leaves, need, Session, offerAll, wentBack, enqueued, tuned, decided, call}
 
 -- a variable that is not assigned has the value for that
 free : {n m : ℕ} {t : Trail} → GoodTrail n m t → (v : ℕ) → v < n → isAssigned (t .values) v ≡ false → valueAt t v ≡ unassigned

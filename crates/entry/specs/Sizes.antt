@@ -10,8 +10,7 @@ use Rattle.laws.specs.Tests.{and-left, and-right, and-both}
 use Rattle.trail.specs.Trail.{Trail}
 use Rattle.trail.specs.Memory.{Sized}
 use Rattle.book.specs.Session.{Session}
-use Rattle.entry.specs.Asked.{Asked}
-use Rattle.entry.specs.Mode.{trailLengths, clauseLengths, scratchLengths, Mode, lengthsOk}
+use Rattle.entry.specs.Mode.{trailLengths, clauseLengths, Mode, lengthsOk}
 
 pub trail-sized : (n : ℕ) (t : Trail) → trailLengths n t ≡ true → Sized n t
 trail-sized n t e =

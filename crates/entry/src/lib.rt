@@ -1,6 +1,5 @@
 // What the entry points of both modes share: the tests of lent memory that do not look at a chooser.
 ghost use mathlib.Core.Path.{_≡_};
-ghost use Prim.Native.Nat.{ℕ};
 ghost use Rattle.formula.specs.Clauses.{clausesOk};
 ghost use Rattle.trail.specs.Memory.{trailOf};
 ghost use Rattle.entry.specs.Checks.{sizeRefusal};

@@ -4,7 +4,7 @@ use mathlib.Core.Path.{_≡_}
 use mathlib.Core.List.{List}
 use native.Mathlib.Omega.{arith}
 use lib.ListN.{length}
-use Rattle.lit.specs.Numbers.{NONE, maxVars}
+use Rattle.lit.specs.Numbers.{maxVars}
 use Rattle.formula.specs.Good.{GoodClauses}
 use Rattle.choosers.specs.List.{listOps, list-chooser}
 use Rattle.book.specs.Session.{call}

@@ -2,7 +2,6 @@
 ghost use mathlib.Core.Path.{_≡_};
 ghost use Prim.Native.Nat.{_≤_};
 ghost use lib.ListN.{length};
-ghost use lib.Dec.{eqb};
 ghost use Rattle.lit.specs.Numbers as number;
 ghost use Rattle.formula.specs.Clauses.{clausesOk};
 ghost use Rattle.trail.specs.Memory.{trailOf, Lengths};

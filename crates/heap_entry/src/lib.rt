@@ -1,0 +1,204 @@
+// The entry point of a session's calls in heap mode. It checks the memory that was lent, and asks nothing of its callers.
+ghost use mathlib.Core.Path.{_≡_};
+ghost use Rattle.formula.specs.Clauses.{clausesOk};
+ghost use Rattle.trail.specs.Memory.{trailOf};
+ghost use Rattle.vsids.specs.Vsids.{vsidsOf};
+ghost use Rattle.entry.specs.Asked.{asks};
+ghost use Rattle.entry.specs.Checks.{stateRefusal};
+ghost use Rattle.calls.specs.Entry.{Answered};
+ghost use Rattle.entry.specs.Mode.{lengthsOk};
+ghost use Rattle.heap_mode.specs.Check.{stateOk};
+ghost use Rattle.heap_mode.specs.Memory.{sessionOf};
+ghost use Rattle.heap_entry.specs.Entry.{heapLengths, heapMode, entered};
+use calls::Call;
+use heap_mode::HeapAnswer;
+use heap_mode::HeapState;
+use heap_mode::check_state;
+use heap_mode::refuse;
+use heap_mode::step;
+use lit::BAD_STATE;
+use vsids::VsidsState;
+
+// Whether the heap's slices have length n.
+fn heap_lengths(
+    n: usize,
+    activity: &[f64],
+    heap: &[u32],
+    indices: &[u32],
+    decision: &[bool],
+) -> bool
+    ensures { λ r. ⌜ ((s : VsidsState) → r ≡ heapLengths n (vsidsOf (now (activity .entry)) (now (heap .entry)) (now (indices .entry)) (now (decision .entry)) s)) ⌝ }
+{
+    activity.len() == n && (heap.len() == n && (indices.len() == n && decision.len() == n))
+}
+
+// Whether all that was lent has its length; of the scratch it is known.
+pub fn lengths_ok(
+    n: u32,
+    literals: u32,
+    clauses: u32,
+    lits: &[u32],
+    ends: &[u32],
+    values: &[u8],
+    levels: &[u32],
+    reasons: &[u32],
+    trail: &[u32],
+    opened: &[u32],
+    activity: &[f64],
+    heap: &[u32],
+    indices: &[u32],
+    decision: &[bool],
+    scratch: bool,
+) -> bool
+    ensures { λ r. ⌜ ((s : HeapState) → r ≡ lengthsOk n clauses (heapMode n clauses (now (lits .entry)) (now (ends .entry))) (now (lits .entry)) literals (now (ends .entry))
+        (sessionOf n clauses (now (lits .entry)) (now (ends .entry)) (now (values .entry)) (now (levels .entry)) (now (reasons .entry)) (now (trail .entry)) (now (opened .entry)) (now (activity .entry)) (now (heap .entry)) (now (indices .entry)) (now (decision .entry)) s)
+        scratch) ⌝ }
+{
+    if !entry::trail_lengths(n as usize, values, levels, reasons, trail, opened) {
+        return false;
+    }
+    if !heap_lengths(n as usize, activity, heap, indices, decision) {
+        return false;
+    }
+    if !entry::clause_lengths(literals, clauses, lits, ends) {
+        return false;
+    }
+    scratch
+}
+
+// The refusal of a session that was lent, or 0.
+fn refusal(
+    n: u32,
+    literals: u32,
+    clauses: u32,
+    lits: &[u32],
+    ends: &[u32],
+    values: &[u8],
+    levels: &[u32],
+    reasons: &[u32],
+    trail: &[u32],
+    opened: &[u32],
+    activity: &[f64],
+    heap: &[u32],
+    indices: &[u32],
+    decision: &[bool],
+    s: HeapState,
+    scratch: bool,
+) -> u32
+    ensures { λ r. ⌜ r ≡ stateRefusal n
+        (lengthsOk n clauses (heapMode n clauses (now (lits .entry)) (now (ends .entry))) (now (lits .entry)) literals (now (ends .entry))
+        (sessionOf n clauses (now (lits .entry)) (now (ends .entry)) (now (values .entry)) (now (levels .entry)) (now (reasons .entry)) (now (trail .entry)) (now (opened .entry)) (now (activity .entry)) (now (heap .entry)) (now (indices .entry)) (now (decision .entry)) s)
+        scratch)
+        (clausesOk n (now (lits .entry)) (now (ends .entry)))
+        (stateOk clauses (trailOf (now (values .entry)) (now (levels .entry)) (now (reasons .entry)) (now (trail .entry)) (now (opened .entry)) (s .trail)) (vsidsOf (now (activity .entry)) (now (heap .entry)) (now (indices .entry)) (now (decision .entry)) (s .vsids))) ⌝ }
+{
+    let lengths = lengths_ok(
+        n,
+        literals,
+        clauses,
+        lits,
+        ends,
+        values,
+        levels,
+        reasons,
+        trail,
+        opened,
+        activity,
+        heap,
+        indices,
+        decision,
+        scratch,
+    );
+    let k = entry::size_refusal(n, lengths, lits, ends);
+    if k != 0 {
+        return k;
+    }
+    if !check_state(
+        clauses,
+        values,
+        levels,
+        reasons,
+        trail,
+        opened,
+        activity,
+        heap,
+        indices,
+        decision,
+        s,
+    ) {
+        return BAD_STATE;
+    }
+    0
+}
+
+// A call on a session that was lent. The stamps and the order are a group's scratch, which this mode only measures.
+pub fn enter(
+    n: u32,
+    literals: u32,
+    clauses: u32,
+    lits: &[u32],
+    ends: &[u32],
+    values: &mut [u8],
+    levels: &mut [u32],
+    reasons: &mut [u32],
+    trail: &mut [u32],
+    opened: &mut [u32],
+    activity: &mut [f64],
+    heap: &mut [u32],
+    indices: &mut [u32],
+    decision: &mut [bool],
+    s: HeapState,
+    call: Call,
+    vars: &[u32],
+    stamps: &[u64],
+    order: &[u32],
+) -> HeapAnswer
+    ensures { λ r. ⌜ Answered
+        (entered n clauses (now (lits .entry)) literals (now (ends .entry)) (asks call (now (vars .entry)) (now (stamps .entry)) (now (order .entry)))
+        (sessionOf n clauses (now (lits .entry)) (now (ends .entry)) (now (values .entry)) (now (levels .entry)) (now (reasons .entry)) (now (trail .entry)) (now (opened .entry)) (now (activity .entry)) (now (heap .entry)) (now (indices .entry)) (now (decision .entry)) s))
+        (sessionOf n clauses (now (lits .entry)) (now (ends .entry)) (now (values .entry)) (now (levels .entry)) (now (reasons .entry)) (now (trail .entry)) (now (opened .entry)) (now (activity .entry)) (now (heap .entry)) (now (indices .entry)) (now (decision .entry)) s)
+        (r .status)
+        (r .reply)
+        (sessionOf n clauses (now (lits .entry)) (now (ends .entry)) (now (values .exit)) (now (levels .exit)) (now (reasons .exit)) (now (trail .exit)) (now (opened .exit)) (now (activity .exit)) (now (heap .exit)) (now (indices .exit)) (now (decision .exit)) (r .state)) ⌝ }
+{
+    let scratch = entry::scratch_lengths(vars.len(), stamps.len(), order.len());
+    let k = refusal(
+        n,
+        literals,
+        clauses,
+        lits,
+        ends,
+        values,
+        levels,
+        reasons,
+        trail,
+        opened,
+        activity,
+        heap,
+        indices,
+        decision,
+        s,
+        scratch,
+    );
+    if k != 0 {
+        return refuse(k, s);
+    }
+    step(
+        n,
+        clauses,
+        lits,
+        ends,
+        values,
+        levels,
+        reasons,
+        trail,
+        opened,
+        activity,
+        heap,
+        indices,
+        decision,
+        s,
+        call,
+        vars,
+    )
+}
