@@ -1,2 +1,3 @@
 -- The run of a call sheet.
 pub mod Sheet
+pub mod Claim
