@@ -1,5 +1,6 @@
 // The text of a call sheet: places of bytes, whole numbers, bit patterns, and the digits of answers.
 ghost use mathlib.Core.Path.{_≡_};
+ghost use mathlib.Core.Bool.{cond};
 ghost use Prim.Native.Nat.{_+_, _≤_};
 ghost use lib.Ieee.{binary64, ofBits};
 ghost use lib.ListN.{length};
@@ -76,7 +77,9 @@ pub fn number(field: &[u8]) -> Whole
 }
 
 // The value of a lower-case hexadecimal digit, or 16 where the byte is none.
-fn hex_digit(b: u8) -> u8 {
+fn hex_digit(b: u8) -> u8
+    ensures { λ r. ⌜ r ≡ cond (spec.isHex b) (spec.hexDigit b) 16 ⌝ }
+{
     if b >= 48 && b <= 57 {
         return b - 48;
     }
