@@ -4,7 +4,7 @@ use mathlib.Core.Bool.{Bool, true, false, cond}
 use mathlib.Core.Option.{Option, none, some}
 use mathlib.Core.List.{List, [], _∷_, _++_}
 use lib.ListN.{length}
-use lib.Dec.{leb}
+use lib.Dec.{leb, eqb}
 use Rattle.lit.specs.Numbers.{NONE, maxVars, maxSheet, answerRoom, longSheet, shortBuffer, badLine, manyVars, badClauses}
 use Rattle.formula.specs.Clauses.{clauseFits}
 use Rattle.formula.specs.Adding.{withEnd}
@@ -69,9 +69,21 @@ abbrev pub replyText : Option ℕ → List ℕ
 replyText none = 45 ∷ []
 replyText (some r) = digits r
 
+-- a reply as code has it
+abbrev pub replyOf : ℕ → Option ℕ
+replyOf r = cond (eqb r NONE) none (some r)
+
+-- a number, with the tab behind it
+unfoldable pub field : ℕ → List ℕ
+field n = digits n ++ (tab ∷ [])
+
+-- a reply, with the newline behind it
+unfoldable pub ending : Option ℕ → List ℕ
+ending r = replyText r ++ (newline ∷ [])
+
 -- 'Answer line: line number from 1, status, reply.'
 unfoldable pub answerLine : ℕ → ℕ → Option ℕ → List ℕ
-answerLine i k r = digits i ++ (tab ∷ (digits k ++ (tab ∷ (replyText r ++ (newline ∷ [])))))
+answerLine i k r = field i ++ (field k ++ ending r)
 
 -- the answers to the lines from the i-th on
 unfoldable pub answers : ℕ → Stage → List (List ℕ) → List ℕ
