@@ -1,32 +1,44 @@
+-- `sheet::answer` meets its contract: its pieces, one behind the other, are the answer line.
+use Prim.Native.Nat.{ℕ, _+_}
+use mathlib.Core.Path.{_≡_}
+use mathlib.Core.Option.{Option}
+use mathlib.Core.List.{_++_}
+use native.Mathlib.Omega.{arith}
+use lib.ListN.{length, length-append}
+use Rattle.sheet.specs.Sheet.{replyOf, field, ending, answerLine}
+use Rattle.sheet.specs.Writing.{put-more, same-room}
 use borrow.Author.Needs.{needs}
 use Rattle.sheet.proofs.answer.Statement.{statement}
 use Rattle.sheet.proofs.answer.Tie as tie
-use Rattle.sheet.proofs.answer.Reads as reads
-use Rattle.sheet.proofs.answer.Lts as lts
-use Rattle.sheet.proofs.put_ending.Reads as put-ending-reads
-use Rattle.sheet.proofs.put_field.Reads as put-field-reads
 
--- src/lib.rt:40:9
+-- an answer's length, piece by piece
+pieces : (i k : ℕ) (r : Option ℕ) → length (answerLine i k r) ≡ length (field i) + (length (field k) + length (ending r))
+unfolding answerLine
+pieces i k r = omega (arith, length-append (field i) (field k ++ ending r), length-append (field k) (ending r))
+
 put-field-requires : tie.Need-put-field-requires
-put-field-requires c κs = ?
+put-field-requires c κs = let s = c .before .before in omega (arith, s .pre, pieces (s .args .line) (s .args .status) (replyOf (s .args .reply)))
 
--- src/lib.rt:41:9
 put-field-requires-2 : tie.Need-put-field-requires-2
-put-field-requires-2 c κs = ?
+put-field-requires-2 c κs =
+    let s = c .before .before .before .before .before .before in
+    let w = c .before .before .before .put-field .ensures in
+    omega (arith, s .pre, pieces (s .args .line) (s .args .status) (replyOf (s .args .reply)), w .place, same-room w)
 
--- src/lib.rt:42:5
 put-ending-requires : tie.Need-put-ending-requires
-put-ending-requires c κs = ?
+put-ending-requires c κs =
+    let s = c .before .before .before .before .before .before .before .before .before .before in
+    let w = c .before .before .before .before .before .before .before .put-field .ensures in
+    let v = c .before .before .before .put-field2 .ensures in
+    omega (arith, s .pre, pieces (s .args .line) (s .args .status) (replyOf (s .args .reply)), w .place, v .place, same-room w, same-room v)
 
--- src/lib.rt:36:1
-same-length : tie.Need-same-length
-same-length c = search needs
-
--- src/lib.rt:36:1
 returns : tie.Need-returns
-returns c = ?
+unfolding answerLine
+returns c =
+    let e = c .before .before .put-ending .ensures in
+    let v = c .before .before .before .before .before .before .put-field2 .ensures in
+    let w = c .before .before .before .before .before .before .before .before .before .before .put-field .ensures in
+    put-more w (put-more v e)
 
 pub answer-spec : {M : Type 1} → statement M
-answer-spec =
-    tie.close
-    (tie.spec put-field-requires put-field-requires-2 put-ending-requires same-length returns)
+answer-spec = tie.close (tie.spec put-field-requires put-field-requires-2 put-ending-requires (λ c. search needs) returns)

@@ -16,13 +16,13 @@ use Rattle.sheet.proofs.put_ending.Tie as tie
 
 slice-write-out : tie.Need-slice-write-out
 unfolding ending
-slice-write-out c = let s = c .before .before in omega (arith, rw (eq-eqb (s .args .reply) NONE (c .if1 .taken)) at s .pre)
+slice-write-out c = let s = c .before .before in omega (arith, rw (eq-eqb (s .args .reply) NONE (c .if1 .taken)) at (s .pre))
 
 slice-write-out-2 : tie.Need-slice-write-out-2
 unfolding ending
 slice-write-out-2 c =
     let s = c .before .before in
-    omega (arith, rw (eq-eqb (s .args .reply) NONE (c .if1 .taken)) at s .pre, length-set (s .args .out .now) (s .args .at) 45)
+    omega (arith, rw (eq-eqb (s .args .reply) NONE (c .if1 .taken)) at (s .pre), length-set (s .args .out .now) (s .args .at) 45)
 
 returns : tie.Need-returns
 unfolding ending written
@@ -32,21 +32,21 @@ put-number-requires : tie.Need-put-number-requires
 unfolding ending
 put-number-requires c κs =
     let s = c .before .before .before in
-    omega (arith, rw (ne-eqb (s .args .reply) NONE (c .before .if1 .left)) at s .pre, length-append (digits (s .args .reply)) (newline ∷ []))
+    omega (arith, rw (ne-eqb (s .args .reply) NONE (c .before .if1 .left)) at (s .pre), length-append (digits (s .args .reply)) (newline ∷ []))
 
 slice-write-out-3 : tie.Need-slice-write-out-3
 unfolding ending
 slice-write-out-3 c =
     let s = c .before .before .before .before .before .before in
     let w = c .before .before .put-number .ensures in
-    omega (arith, rw (ne-eqb (s .args .reply) NONE (c .before .before .before .before .if1 .left)) at s .pre, length-append (digits (s .args .reply)) (newline ∷ []), w .1, same-room (record { buffer = w .0; place = w .1 }))
+    omega (arith, rw (ne-eqb (s .args .reply) NONE (c .before .before .before .before .if1 .left)) at (s .pre), length-append (digits (s .args .reply)) (newline ∷ []), w .1, same-room (record { buffer = w .0; place = w .1 }))
 
 add-result-2 : tie.Need-add-result-2
 unfolding ending
 add-result-2 c =
     let s = c .before .before .before .before .before .before in
     let w = c .before .before .put-number .ensures in
-    omega (arith, rw (ne-eqb (s .args .reply) NONE (c .before .before .before .before .if1 .left)) at s .pre, length-append (digits (s .args .reply)) (newline ∷ []), w .1)
+    omega (arith, rw (ne-eqb (s .args .reply) NONE (c .before .before .before .before .if1 .left)) at (s .pre), length-append (digits (s .args .reply)) (newline ∷ []), w .1)
 
 returns-2 : tie.Need-returns-2
 unfolding ending
