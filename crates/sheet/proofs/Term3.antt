@@ -1,7 +1,7 @@
 -- Term 3 for a sheet's answers. By induction over the lines: a line with a call is a step of the book's run, any other leaves it.
 use Prim.Native.Nat.{ℕ, _+_, _≤_}
 use mathlib.Core.Path.{_≡_, refl, ap, subst, _∙_}
-use mathlib.Core.Bool.{Bool, true, false}
+use mathlib.Core.Bool.{true, false}
 use mathlib.Core.Option.{Option, none, some}
 use mathlib.Core.List.{List, [], _∷_, _++_}
 use lib.ListN.{length}
@@ -17,10 +17,10 @@ use Rattle.choosers.specs.List.{listOps}
 use Rattle.choosers.specs.Terms.{heap-term3, list-term3}
 use Rattle.book.specs.Calls.{Call}
 use Rattle.book.specs.Chooser.{Operations}
-use Rattle.book.specs.Session.{Result, done, refuse, status, reply, leaves, need, Session, fresh, call}
-use Rattle.book.specs.Claim.{Event, Past, Run, begin, step, run, Term3}
+use Rattle.book.specs.Session.{Result, done, refuse, status, reply, leaves, need, Session, call}
+use Rattle.book.specs.Claim.{Event, Run, begin, step, run, Term3}
 use Rattle.forms.specs.Forms.{Mode, vsids, vmtf, Opening, callIn, codesIn, beginsClause}
-use Rattle.sheet.specs.Sheet.{Stage, reading, inHeap, inList, called, staged, turn, clauseWith, answerLine, answers, opening}
+use Rattle.sheet.specs.Sheet.{Stage, reading, inHeap, inList, called, staged, clauseWith, answerLine, answers, opening}
 use Rattle.sheet.specs.Claim.{before, callsIn, onto, told, rest, logged, ByTheBook, Right, over, clause, heap, list}
 
 abbrev IsRefused : Result Stage → Type 0

@@ -11,7 +11,7 @@ use Rattle.choosers.specs.List.{listOps}
 use Rattle.book.specs.Calls.{Call}
 use Rattle.book.specs.Chooser.{Operations}
 use Rattle.book.specs.Session.{leaves, Session, fresh}
-use Rattle.book.specs.Claim.{Event, Past, Run, begin, run, Claim}
+use Rattle.book.specs.Claim.{Event, Past, begin, run, Claim}
 use Rattle.forms.specs.Forms.{Mode, vsids, vmtf, callIn, beginsClause}
 use Rattle.sheet.specs.Sheet.{Stage, reading, inHeap, inList, turn, answerLine, answers}
 

@@ -1,6 +1,6 @@
 -- The run of a call sheet: lines to answers. One line is one step, and the run goes over the lines.
-use Prim.Native.Nat.{ℕ, suc, _+_, _*_, _-_}
-use mathlib.Core.Bool.{Bool, true, false, cond}
+use Prim.Native.Nat.{ℕ, _+_, _*_, _-_}
+use mathlib.Core.Bool.{cond}
 use mathlib.Core.Option.{Option, none, some}
 use mathlib.Core.List.{List, [], _∷_, _++_}
 use lib.ListN.{length}
@@ -14,7 +14,7 @@ use Rattle.book.specs.Calls.{Call}
 use Rattle.book.specs.Chooser.{Operations}
 use Rattle.book.specs.Session.{Result, done, refuse, status, reply, leaves, need, Session, fresh, call}
 use Rattle.text.specs.Text.{tab, newline, lines, occurs, digits}
-use Rattle.forms.specs.Forms.{Mode, vsids, vmtf, Opening, given, callIn, beginsClause, codesIn, firstIn}
+use Rattle.forms.specs.Forms.{Mode, vsids, vmtf, Opening, callIn, beginsClause, codesIn, firstIn}
 
 -- Where a run stands between two lines: among the clause lines, or in a session of either mode.
 pub data Stage : Type 0 where

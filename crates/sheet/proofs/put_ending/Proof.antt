@@ -1,8 +1,6 @@
 -- `sheet::put_ending` meets its contract: the newline stands behind the reply.
-use Prim.Native.Nat.{ℕ}
 use native.Mathlib.Omega.{arith}
-use lib.ListN.{length, length-append, length-set}
-use lib.Dec.{eqb}
+use lib.ListN.{length-append, length-set}
 use mathlib.Core.Path.{refl}
 use mathlib.Core.List.{[], _∷_}
 use borrow.Author.Tests.{eq-eqb, ne-eqb}

@@ -1,6 +1,6 @@
 -- `sheet::put_field` meets its contract: the tab stands behind the digits.
 use native.Mathlib.Omega.{arith}
-use lib.ListN.{length, length-append}
+use lib.ListN.{length-append}
 use mathlib.Core.List.{[], _∷_}
 use Rattle.text.specs.Text.{tab, digits}
 use Rattle.sheet.specs.Sheet.{field}
