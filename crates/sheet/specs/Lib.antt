@@ -1,2 +1,10 @@
--- The run of a call sheet.
+-- The run of a call sheet: its definition, term 3 of its answers, how answers are written, bounds on them, and the clause lines as code runs them.
 pub mod Sheet
+pub mod Claim
+pub mod Writing
+pub mod Bounds
+pub mod Replies
+pub mod Running
+pub mod Steps
+pub mod ClauseLines
+pub mod Section

@@ -1,10 +1,10 @@
 -- The run of a call sheet: lines to answers. One line is one step, and the run goes over the lines.
-use Prim.Native.Nat.{ℕ, suc, _+_, _*_, _-_}
-use mathlib.Core.Bool.{Bool, true, false, cond}
+use Prim.Native.Nat.{ℕ, _+_, _*_, _-_}
+use mathlib.Core.Bool.{cond}
 use mathlib.Core.Option.{Option, none, some}
 use mathlib.Core.List.{List, [], _∷_, _++_}
 use lib.ListN.{length}
-use lib.Dec.{leb}
+use lib.Dec.{leb, eqb}
 use Rattle.lit.specs.Numbers.{NONE, maxVars, maxSheet, answerRoom, longSheet, shortBuffer, badLine, manyVars, badClauses}
 use Rattle.formula.specs.Clauses.{clauseFits}
 use Rattle.formula.specs.Adding.{withEnd}
@@ -14,7 +14,7 @@ use Rattle.book.specs.Calls.{Call}
 use Rattle.book.specs.Chooser.{Operations}
 use Rattle.book.specs.Session.{Result, done, refuse, status, reply, leaves, need, Session, fresh, call}
 use Rattle.text.specs.Text.{tab, newline, lines, occurs, digits}
-use Rattle.forms.specs.Forms.{Mode, vsids, vmtf, Opening, given, callIn, beginsClause, codesIn, firstIn}
+use Rattle.forms.specs.Forms.{Mode, vsids, vmtf, Opening, callIn, beginsClause, codesIn, firstIn}
 
 -- Where a run stands between two lines: among the clause lines, or in a session of either mode.
 pub data Stage : Type 0 where
@@ -69,9 +69,21 @@ abbrev pub replyText : Option ℕ → List ℕ
 replyText none = 45 ∷ []
 replyText (some r) = digits r
 
+-- a reply as code has it
+abbrev pub replyOf : ℕ → Option ℕ
+replyOf r = cond (eqb r NONE) none (some r)
+
+-- a number, with the tab behind it
+unfoldable pub field : ℕ → List ℕ
+field n = digits n ++ (tab ∷ [])
+
+-- a reply, with the newline behind it
+unfoldable pub ending : Option ℕ → List ℕ
+ending r = replyText r ++ (newline ∷ [])
+
 -- 'Answer line: line number from 1, status, reply.'
 unfoldable pub answerLine : ℕ → ℕ → Option ℕ → List ℕ
-answerLine i k r = digits i ++ (tab ∷ (digits k ++ (tab ∷ (replyText r ++ (newline ∷ [])))))
+answerLine i k r = field i ++ (field k ++ ending r)
 
 -- the answers to the lines from the i-th on
 unfoldable pub answers : ℕ → Stage → List (List ℕ) → List ℕ

@@ -38,17 +38,17 @@ module _ (b : ℕ) (l : List ℕ) (i : ℕ) where
 
 -- what is counted from here
 module _ (b : ℕ) (l : List ℕ) (i : ℕ) where
-  pub occurs-next : i < length l → (getD l i 0 ≡ b → ⊥) → occurs b (drop i l) ≡ occurs b (drop (i + 1) l)
+  pub occurs-other : i < length l → (getD l i 0 ≡ b → ⊥) → occurs b (drop i l) ≡ occurs b (drop (i + 1) l)
   unfolding occurs
-  occurs-next h n = rw (next-byte l i h, ne-eqb (getD l i 0) b n)
+  occurs-other h n = rw (next-byte l i h, ne-eqb (getD l i 0) b n)
 
-  pub occurs-here : i < length l → getD l i 0 ≡ b → occurs b (drop i l) ≡ suc (occurs b (drop (i + 1) l))
+  pub occurs-same : i < length l → getD l i 0 ≡ b → occurs b (drop i l) ≡ suc (occurs b (drop (i + 1) l))
   unfolding occurs
-  occurs-here h e = rw (next-byte l i h, eq-eqb (getD l i 0) b e)
+  occurs-same h e = rw (next-byte l i h, eq-eqb (getD l i 0) b e)
 
-  pub occurs-none : length l ≤ i → occurs b (drop i l) ≡ 0
+  pub occurs-end : length l ≤ i → occurs b (drop i l) ≡ 0
   unfolding occurs
-  occurs-none h = rw (drop-of-length-le l h)
+  occurs-end h = rw (drop-of-length-le l h)
 
 -- the number that the digits left give behind v
 unfoldable pub numberFrom : ℕ → List ℕ → Option ℕ
@@ -181,7 +181,7 @@ room-left v i h b =
     let most : 16 ^ i ≤ 16 ^ 15 = pow-le-pow-right {n = 16} (omega arith) {i = i} {j = 15} (omega arith) in
     omega arith
 
--- the patterns of a NaN
+-- the patterns of a NaN: those above an infinity's, the sign aside
 is-nan : (x : Float) → isNan x ≡ true → x ≡ nan
 unfolding isNan
 is-nan nan e = refl

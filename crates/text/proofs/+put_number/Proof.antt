@@ -1,4 +1,5 @@
 -- `text::put_number` meets its contract: the digits before the last are those of a tenth of the number, and the last stands behind them.
+use Prim.Native.Nat.{ℕ, _<_, _+_, _/_, _%_}
 use mathlib.Core.Path.{_≡_, _∙_, ap, sym}
 use mathlib.Core.Logic.{⊎-elim}
 use mathlib.Core.List.{[]}
@@ -6,7 +7,6 @@ use native.Mathlib.Omega.{arith}
 use lib.ListN.{length, length-set}
 use Rattle.text.specs.Text.{written, digits}
 use Rattle.text.specs.Laws.{front, front-more, front-none, front-length, put-last, written-length, written-none}
-use Prim.Native.Nat.{ℕ, _<_, _+_, _/_, _%_}
 use borrow.Fn.Kinds.{In}
 use borrow.Fn.PlainCycle.{Measures, is, falls, and}
 use Rattle.text.proofs.put_number.Reads as put-number

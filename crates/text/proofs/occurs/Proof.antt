@@ -6,7 +6,7 @@ use native.Mathlib.Omega.{arith}
 use borrow.Author.Needs.{needs}
 use lib.ListN.{length, drop}
 use Rattle.text.specs.Text.{occurs}
-use Rattle.text.specs.Reading.{occurs-next, occurs-here, occurs-none}
+use Rattle.text.specs.Reading.{occurs-other, occurs-same, occurs-end}
 use Rattle.text.proofs.occurs.Statement.{statement}
 use Rattle.text.proofs.occurs.Tie as tie
 
@@ -25,12 +25,12 @@ loop-again c =
     let l = c .before .before .before .before .args .bytes .now in
     let i = c .before .before .before .loop .i in
     ⊎-elim
-    (λ w. (omega arith, (omega arith, omega (arith, occurs-here b l i (omega arith) (w .0 .taken)))))
-    (λ w. (omega arith, (omega arith, omega (arith, occurs-next b l i (omega arith) (w .0 .left)))))
+    (λ w. (omega arith, (omega arith, omega (arith, occurs-same b l i (omega arith) (w .0 .taken)))))
+    (λ w. (omega arith, (omega arith, omega (arith, occurs-other b l i (omega arith) (w .0 .left)))))
     (c .if1 .came)
 
 returns : tie.Need-returns Inv-loop μ-loop
-returns c = omega (arith, occurs-none (c .before .before .args .b) (c .before .before .args .bytes .now) (c .before .loop .i) (omega arith))
+returns c = omega (arith, occurs-end (c .before .before .args .b) (c .before .before .args .bytes .now) (c .before .loop .i) (omega arith))
 
 pub occurs-spec : {M : Type 1} → statement M
 occurs-spec =
