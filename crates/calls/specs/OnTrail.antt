@@ -1,6 +1,6 @@
 -- The calls that change the trail, as they act on it alone; and that a session with any chooser answers as they do.
 use Prim.Native.Nat.{ℕ, _-_, _≤_, _<_}
-use mathlib.Core.Path.{_≡_, refl, sym, ap, _∙_}
+use mathlib.Core.Path.{_≡_, refl, ap, _∙_}
 use mathlib.Core.Bool.{Bool, true, false, not}
 use mathlib.Core.Option.{none, some}
 use native.Mathlib.Omega.{arith}

@@ -8,7 +8,7 @@ use borrow.Author.Tests.{lt-ltb, le-ltb}
 use lib.ListN.{length, getD}
 use Rattle.lit.specs.Lits.{index}
 use Rattle.trail.specs.Trail.{Trail, backtrackSafe, backtrackTo, undone}
-use Rattle.trail.specs.Good.{openedAt}
+use Rattle.trail.specs.Good.{varAt, openedAt, GoodTrail}
 use Rattle.trail.specs.Undone.{between, between-none, between-more}
 use Rattle.vsids.specs.Vsids.{Vsids, insert}
 use Rattle.vsids.specs.Kept.{undo-ok}
@@ -41,6 +41,14 @@ offering {n} {o} {top} {i} {trail} {goal} {h} s l b v h′ a e =
 pub offered-all : {n o top i : ℕ} {trail : List ℕ} {goal h : Vsids} → Offering n trail o top goal i h → i ≤ o → h ≡ goal
 unfolding insertAll
 offered-all {o = o} {i = i} {trail = trail} {h = h} s b = let e : i ≡ o = omega (arith, s .above) in sym (ap (λ (vs : List ℕ). insertAll vs h) (ap (between trail o) e ∙ between-none trail o)) ∙ s .rest
+
+-- what is undone by going back to level l lies on the trail
+module _ {n m l : ℕ} {t : Trail} (g : GoodTrail n m t) (b : l < t .level) where
+  pub level-opened : l < length (t .opened)
+  level-opened = omega (arith, g .level-in, g .lengths .opened-long)
+
+  pub undone-on : (openedAt t l ≤ t .len) × ((t .len ≤ length (t .trail)) × ((i : ℕ) → i < t .len → varAt t i < n))
+  undone-on = (omega (arith, g .below l b), (omega (arith, g .len-in, g .lengths .trail-long), g .codes-in))
 
 module _ (n m : ℕ) (lits ends : List ℕ) where
   offered : (vs : List ℕ) (h : Vsids) → offerAll n m (heapOps n lits ends) vs h ≡ insertAll vs h

@@ -1,12 +1,11 @@
 -- When a session in heap mode is good, and what each call needs of it.
-use Prim.Native.Nat.{ℕ, _≤_, _<_}
+use Prim.Native.Nat.{ℕ, _≤_}
 use mathlib.Core.Path.{_≡_}
 use mathlib.Core.Bool.{Bool}
 use mathlib.Core.List.{List}
 use lib.Ieee.{Float}
-use lib.ListN.{length, getD}
+use lib.ListN.{length}
 use Rattle.lit.specs.Numbers.{maxVars}
-use Rattle.lit.specs.Lits.{index}
 use Rattle.formula.specs.Good.{GoodClauses}
 use Rattle.trail.specs.Trail.{Trail}
 use Rattle.trail.specs.Good.{GoodTrail}

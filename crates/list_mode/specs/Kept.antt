@@ -1,35 +1,32 @@
 -- From a good session every call leaves a good session, refused or not; and a fresh session is good.
 use Prim.Native.Nat.{ℕ, zero, suc, _≤_, _<_}
-use mathlib.Core.Path.{_≡_, refl, sym, ap, subst, _∙_}
-use mathlib.Core.Logic.{_⊎_, inl, inr}
-use mathlib.Core.Bool.{Bool, true, false, not, cond, _||_}
-use mathlib.Core.Option.{Option, none, some}
+use mathlib.Core.Path.{_≡_, refl, ap}
+use mathlib.Core.Logic.{inl, inr}
+use mathlib.Core.Bool.{Bool, true, false, not, cond}
 use mathlib.Core.List.{List, [], _∷_}
 use native.Mathlib.Omega.{arith}
-use borrow.Author.Tests.{ltb-true, ltb-false, eqb-true, not-true}
-use lib.ListN.{length, getD}
+use borrow.Author.Tests.{ltb-true, eqb-true, not-true}
 use lib.Dec.{ltb, eqb}
 use Rattle.laws.specs.Tests.{and-left, and-right}
 use Rattle.laws.specs.Choices.{or-cases}
-use Rattle.lit.specs.Numbers.{NONE, maxVars, unassigned, pastOpen}
+use Rattle.lit.specs.Numbers.{NONE, maxVars}
 use Rattle.lit.specs.Lits.{index, isAssigned}
-use Rattle.trail.specs.Trail.{Trail, freshTrail, enqAssignment, enqDecision, backtrackSafe}
-use Rattle.trail.specs.Good.{valueAt, IsReason, GoodTrail}
+use Rattle.trail.specs.Trail.{backtrackSafe}
+use Rattle.trail.specs.Good.{IsReason}
 use Rattle.trail.specs.Laws.{fresh-good, not-assigned, enq-good, dec-good}
 use Rattle.trail.specs.Back.{back-good}
 use Rattle.vmtf.specs.declared.Next as code
 use Rattle.vmtf.specs.declared.Next.the-variants as found
 use Rattle.vmtf.specs.Vmtf as vmtf
 use Rattle.vmtf.specs.Vmtf.{Vmtf}
-use Rattle.vmtf.specs.Good.{GoodList}
 use Rattle.vmtf.specs.Moves.{group-good}
 use Rattle.vmtf.specs.Fresh.{new-good}
 use Rattle.vmtf.specs.Choice.{NextIs, next-right}
 use Rattle.choosers.specs.List.{listOps, nextOf}
 use Rattle.book.specs.Calls.{Call, bump, decay, setDecay, insert, switchOff, decide, enqueue, learnUnit, goBack, bumpReason, group}
 use Rattle.book.specs.Chooser.{below, goodReason}
-use Rattle.book.specs.Session.{Result, done, refuse, leaves, need, Session, fresh, offerAll, wentBack, enqueued, tuned, decided, call}
-use Rattle.list_mode.specs.Good.{InOrder, GoodSession}
+use Rattle.book.specs.Session.{Result, leaves, need, Session, fresh, offerAll, wentBack, enqueued, tuned, decided, call}
+use Rattle.list_mode.specs.Good.{GoodSession}
 
 -- going back in list mode changes the trail alone: what is offered to the list leaves it as it is
 module _ (n m : ℕ) (lits : List ℕ) where

@@ -1,15 +1,13 @@
 -- Which variables of a good trail are still assigned at level 0: those that are assigned and have this level. Before the first opened
 -- level no level is open, and from it on at least one is.
 use Prim.Native.Nat.{ℕ, zero, suc, _≤_, _<_}
-use mathlib.Core.Path.{_≡_, refl, sym, ap, _∙_}
-use mathlib.Core.Logic.{_≢_, by-cases}
-use mathlib.Core.Bool.{Bool, true, false, _&&_, cond}
-use mathlib.Core.List.{List}
+use mathlib.Core.Path.{_≡_, sym, ap, _∙_}
+use mathlib.Core.Logic.{by-cases}
+use mathlib.Core.Bool.{Bool, true, _&&_}
 use native.Mathlib.Omega.{arith}
 use native.Mathlib.Decide.{ℕ-discrete, decLt}
 use borrow.Author.Tests.{ltb-true, lt-ltb, le-ltb, eqb-true, eq-eqb, le-leb, lt-leb}
-use lib.ListN.{getD}
-use lib.Dec.{leb, ltb, eqb}
+use lib.Dec.{leb, eqb}
 use Rattle.laws.specs.Tests.{and-left, and-right, and-both, same-test, true-or-false, cond-elim}
 use Rattle.laws.specs.Some.{count, count-cut}
 use Rattle.lit.specs.Numbers.{unassigned}

@@ -3,7 +3,6 @@ use mathlib.Core.Path.{sym, _∙_}
 use native.Mathlib.Omega.{arith}
 use borrow.Author.Tests.{not-true, not-false}
 use Rattle.heap_mode.specs.Check.{stateOk}
-use borrow.Author.Needs.{needs}
 use Rattle.heap_mode.proofs.check_state.Statement.{statement}
 use Rattle.heap_mode.proofs.check_state.Tie as tie
 

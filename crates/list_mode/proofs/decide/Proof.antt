@@ -1,6 +1,5 @@
 -- `list_mode::decide` meets its contract: by what `get_next` found; the variable that it picks has room on the trail.
 use mathlib.Core.Path.{refl, sym, ap, subst, _∙_}
-use native.Mathlib.Omega.{arith}
 use borrow.Author.Tests.{le-ltb}
 use Rattle.trail.specs.Laws.{not-assigned}
 use Rattle.vmtf.specs.Good.{good-ends}

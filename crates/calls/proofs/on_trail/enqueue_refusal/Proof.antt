@@ -1,5 +1,5 @@
 -- `calls::on_trail::enqueue_refusal` meets its contract: one test after the other.
-use Prim.Native.Nat.{_≤_, _<_}
+use Prim.Native.Nat.{_<_}
 use mathlib.Core.Path.{sym, _∙_}
 use native.Mathlib.Omega.{arith}
 use borrow.Author.Needs.{needs}

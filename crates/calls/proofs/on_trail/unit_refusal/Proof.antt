@@ -1,5 +1,5 @@
 -- `calls::on_trail::unit_refusal` meets its contract: the variables assigned at level 0 are those that stay assigned when the trail goes back.
-use Prim.Native.Nat.{_≤_, _<_}
+use Prim.Native.Nat.{_<_}
 use mathlib.Core.Path.{sym, _∙_}
 use native.Mathlib.Omega.{arith}
 use borrow.Author.Needs.{needs}

@@ -1,5 +1,4 @@
 -- `heap_mode::order::bump` meets its contract: a good heap is safe to move in.
-use native.Mathlib.Omega.{arith}
 use Rattle.vsids.specs.Kept.{good-room, good-placed}
 use borrow.Author.Tests.{lt-ltb, le-ltb}
 use Rattle.book.specs.Session.{call, tuned}

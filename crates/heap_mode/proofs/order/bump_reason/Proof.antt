@@ -1,6 +1,4 @@
 -- `heap_mode::order::bump_reason` meets its contract: a reason that is not NONE is a clause, and its literals are of variables.
-use mathlib.Core.Logic.{_⊎_, inl, inr}
-use native.Mathlib.Omega.{arith}
 use Rattle.formula.specs.Reading.{clause-at, clause-below}
 use Rattle.vsids.specs.Kept.{good-room, good-placed}
 use Rattle.heap_mode.proofs.Needed.{is-clause}

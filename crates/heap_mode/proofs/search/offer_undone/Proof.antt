@@ -1,9 +1,9 @@
 -- `heap_mode::search::offer_undone` meets its contract. The loop's invariant: offering the variables that are left gives the goal.
-use Prim.Native.Nat.{ℕ, _-_, _<_}
+use Prim.Native.Nat.{ℕ, _-_}
 use mathlib.Core.Path.{refl, sym, ap, _∙_}
 use native.Mathlib.Omega.{arith}
 use lib.ListN.{length}
-use Rattle.trail.specs.Undone.{between, between-none}
+use Rattle.trail.specs.Undone.{between}
 use Rattle.vsids.specs.Vsids.{vsidsOf, insert}
 use Rattle.vsids.specs.Kept.{good-room, good-free}
 use Rattle.heap_mode.specs.Memory.{insertAll}

@@ -1,26 +1,34 @@
 -- `heap_mode::search::went_back` meets its contract: what is undone is offered to the heap, then taken off the trail.
-use mathlib.Core.Path.{sym}
-use native.Mathlib.Omega.{arith}
-use Rattle.trail.specs.Laws.{levelled}
-use Rattle.heap_mode.proofs.Going.{stayed, went}
 use borrow.Author.Needs.{needs}
+use Rattle.trail.specs.Laws.{levelled}
+use Rattle.heap_mode.specs.Memory.{sessionOf}
+use Rattle.heap_mode.proofs.Going.{level-opened, undone-on, stayed, went}
 use Rattle.heap_mode.proofs.search.went_back.Statement.{statement}
 use Rattle.heap_mode.proofs.search.went_back.Tie as tie
 
 returns : tie.Need-returns
 returns c = λ n m lits ends. stayed n m lits ends _ _ (c .if1 .taken)
 
+slice-read-from : tie.Need-slice-read-from
+slice-read-from c = level-opened (c .before .before .before .before .before .before .before .before .before .before .before .before .before .before .pre .trail) (c .before .if1 .left)
+
 offer-undone-requires : tie.Need-offer-undone-requires
-offer-undone-requires c κs =
-    let k = c .before .before .before .before .before .before .before .before .before .before .before .before .before .before .before .before .before .pre in
-    let g = k .trail in
-    rw (k .heap .scores .long) ((_, k .heap), (omega (arith, g .below _ (c .before .before .before .before .if1 .left)), (omega (arith, g .len-in, g .lengths .trail-long), g .codes-in)))
+offer-undone-requires c κs = let k = c .before .before .before .before .before .before .before .before .before .before .before .before .before .before .before .before .before .pre in rw (k .heap .scores .long) ((_, k .heap), undone-on (k .trail) (c .before .before .before .before .if1 .left))
 
 backtrack-to-requires : tie.Need-backtrack-to-requires
 backtrack-to-requires c κs = let k = c .before .before .before .before .before .before .before .before .before .before .before .before .before .before .before .before .before .before .before .before .before .before .before .before .before .before .pre in (levelled (k .trail) (k .small), c .before .before .before .before .before .before .before .before .before .before .before .before .before .if1 .left)
 
+-- the session is named, since to find it takes long
 returns-2 : tie.Need-returns-2
-returns-2 c = λ n m lits ends. went n m lits ends _ _ (c .before .before .before .before .before .before .before .before .before .before .before .before .before .before .before .before .before .before .before .before .before .before .if1 .left) _ _ (c .before .before .before .before .before .before .before .before .backtrack-to .ensures) (c .before .before .before .before .before .before .before .before .before .before .before .before .before .before .before .before .before .offer-undone .ensures)
+returns-2 c =
+    λ n m lits ends.
+    let a = c .before .before .before .before .before .before .before .before .before .before .before .before .before .before .before .before .before .before .before .before .before .before .before .before .before .before .before .before .before .before .before .before .before .before .before .args in
+    went n m lits ends (a .level) (sessionOf n m lits ends (a .values .now) (a .levels .now) (a .reasons .now) (a .trail .now) (a .opened .now) (a .activity .now) (a .heap .now) (a .indices .now) (a .decision .now) (a .s))
+    (c .before .before .before .before .before .before .before .before .before .before .before .before .before .before .before .before .before .before .before .before .before .before .if1 .left)
+    _
+    _
+    (c .before .before .before .before .before .before .before .before .backtrack-to .ensures)
+    (c .before .before .before .before .before .before .before .before .before .before .before .before .before .before .before .before .before .offer-undone .ensures)
 
 pub went-back-spec : {M : Type 1} → statement M
 went-back-spec =
@@ -28,7 +36,7 @@ went-back-spec =
     (tie.spec
     returns
     (λ c. search needs)
-    (λ c. search needs)
+    slice-read-from
     offer-undone-requires
     backtrack-to-requires
     (λ c. c .before .before .before .before .before .before .before .before .backtrack-to .kept .0)
