@@ -51,3 +51,15 @@ fn examples_are_read_line_by_line() {
     let document = "text\n```sheet\nn|1|vsids  → 1|0|-\nx\n```\n```\nno\n```\n";
     assert_eq!(examples(document), [(b"n\t1\tvsids\nx\n".to_vec(), b"1\t0\t-\n".to_vec())]);
 }
+
+#[test]
+fn the_documents_examples_answer_as_shown() {
+    let document = include_str!("../../../../docs/SHEET.md");
+    let examples = examples(document);
+    assert!(examples.len() > 10);
+    for (sheet, shown) in examples {
+        let mut answers = vec![0; ANSWER_ROOM * sheet.len()];
+        let len = run(&sheet, &mut answers) as usize;
+        assert_eq!(String::from_utf8_lossy(&answers[..len]), String::from_utf8_lossy(&shown));
+    }
+}
