@@ -230,18 +230,11 @@ impl Answers<'_> {
     }
 
     fn number(&mut self, mut value: u32) {
-        let mut digits = [0; 10];
-        let mut start = digits.len();
-        loop {
-            start -= 1;
-            digits[start] = b'0' + (value % 10) as u8;
+        let end = self.len + value.max(1).ilog10() as usize + 1;
+        for place in self.buffer[self.len..end].iter_mut().rev() {
+            *place = b'0' + (value % 10) as u8;
             value /= 10;
-            if value == 0 {
-                break;
-            }
         }
-        let end = self.len + digits.len() - start;
-        self.buffer[self.len..end].copy_from_slice(&digits[start..]);
         self.len = end;
     }
 }

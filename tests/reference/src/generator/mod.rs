@@ -15,7 +15,7 @@ pub use examples::examples;
 use crate::sheet::{Mode, MAX_VARIABLES};
 use builder::Builder;
 use profile::Profile;
-use rng::Rng;
+pub use rng::Rng;
 
 /// The sheet that belongs to a seed.
 pub fn sheet(seed: u64) -> Vec<u8> {
