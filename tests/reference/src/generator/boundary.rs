@@ -26,6 +26,7 @@ pub fn named() -> Vec<Named> {
         all.bytes(mode);
         all.depth(mode);
         all.scaling(mode);
+        all.doubles(mode);
     }
     all.0
 }
@@ -41,6 +42,25 @@ fn heading(num_vars: usize, mode: &str) -> String {
 /// Decides to the end, back to 0 and a decide once more.
 fn drain(num_vars: usize) -> String {
     "g\t1\n".repeat(num_vars + 1) + "k\t0\ng\t0\n"
+}
+
+/// The line that sets a decay.
+fn set_decay(decay: f64) -> String {
+    format!("w\t{:016x}\n", decay.to_bits())
+}
+
+/// So many decays by one half: from a step of 1 they lead to a power of two.
+fn halves(count: usize) -> String {
+    set_decay(0.5) + &"y\n".repeat(count)
+}
+
+/// The calls that bring a fresh step to just this double: halves up to the power of two below it, then the decay whose rounded quotient is the rest.
+fn step_of(step: f64) -> String {
+    let power = step.log2().floor();
+    let rest = step / power.exp2();
+    let near = (1.0 / rest).to_bits();
+    let decay = (near - 2..=near + 2).map(f64::from_bits).find(|decay| 1.0 / decay == rest);
+    halves(power as usize) + &set_decay(decay.expect("quotients are no further apart than doubles")) + "y\n"
 }
 
 /// A line of a letter and the numbers below a bound.
@@ -215,7 +235,6 @@ impl Sheets {
 
     /// Steps that grow past the limits of activity and step.
     fn scaling(&mut self, mode: &str) {
-        let halves = |count| "w\t3fe0000000000000\n".to_string() + &"y\n".repeat(count);
         for count in [332, 333, 664, 665] {
             let sheet = heading(9, mode) + "b\t3\nb\t3\nb\t4\n" + &halves(count) + "b\t5\nb\t5\nb\t6\nb\t3\nb\t5\ny\nb\t7\n" + &drain(9);
             self.add(format!("{mode}, {count} halves"), sheet);
@@ -227,5 +246,19 @@ impl Sheets {
         );
         let by_default = "y\n".repeat(9000);
         self.add(format!("{mode}, the fresh decay to its end"), heading(2, mode) + &by_default + "b\t1\ny\ny\nb\t0\n" + &drain(2));
+    }
+
+    /// Doubles just at the limits, and activities that only rounding tells apart.
+    fn doubles(&mut self, mode: &str) {
+        for step in [1e100_f64, 1e200] {
+            for step in [f64::from_bits(step.to_bits() - 1), step, f64::from_bits(step.to_bits() + 1)] {
+                let calls = step_of(step) + "b\t0\n" + &set_decay(1.0) + "y\nb\t1\n" + &halves(340) + "b\t1\n" + &halves(340);
+                self.add(format!("{mode}, a step of {step:e}"), heading(3, mode) + &calls + &drain(3));
+            }
+        }
+        // with the golden ratio as quotient each step is the sum of the two before it, but for rounding
+        let golden = set_decay(2.0 / (1.0 + 5_f64.sqrt()));
+        let pairs: String = (0..100).map(|pair| format!("b\t{0}\ny\nb\t{0}\ny\nb\t{1}\n", 2 * pair, 2 * pair + 1)).collect();
+        self.add(format!("{mode}, apart by rounding"), heading(200, mode) + &golden + &pairs + &drain(200));
     }
 }
