@@ -143,6 +143,10 @@ impl Sheets {
             format!("{mode}, greatest codes"),
             heading(2048, mode) + "c\t4095\t4094\nc\t4096\nc\t4294967295\nc\t4294967296\ng\t1\ng\t1\n",
         );
+        for end in ["", "g\t1", "\tc", "C\t1", "z", "c\tx\n\nc\t3"] {
+            let sheet = heading(2, mode) + "c\t1\ncx\nc\t\nc\t3\t2\n" + end + "\nc\t1\ne\t0\t1\ne\t2\t2\n";
+            self.add(format!("{mode}, clauses up to {end:?}"), sheet);
+        }
         self.add(format!("{mode}, no variable for a clause"), heading(0, mode) + "c\nc\t0\nc\nc\t1\te\ne\t0\t0\ng\t1\n");
     }
 
