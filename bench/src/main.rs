@@ -1,12 +1,11 @@
-//! Times the proved chooser against the reference on the same sheets, in one process, turn by turn, and prints the medians.
+//! Times the proved chooser against the reference on the same sheets, in one process, turn by turn, and prints the medians of the
+//! processor's time, which other work on the machine disturbs least.
 //! The reference reads heap, list and values without bounds checks, as JigSAT does.
 
+mod clock;
 mod workloads;
 
-use std::{
-    hint::black_box,
-    time::{Duration, Instant},
-};
+use std::{hint::black_box, time::Duration};
 use workloads::{growth, uses, Workload};
 
 /// How many times each of the two is timed on a sheet, and for how long each time.
@@ -22,11 +21,11 @@ fn proved(sheet: &[u8], answers: &mut [u8]) -> u32 {
 
 /// The mean time of so many runs.
 fn time(run: Run, sheet: &[u8], answers: &mut [u8], times: u32) -> Duration {
-    let start = Instant::now();
+    let start = clock::thread_time();
     for _ in 0..times {
         black_box(run(black_box(sheet), black_box(answers)));
     }
-    start.elapsed() / times
+    (clock::thread_time() - start) / times
 }
 
 /// How many runs fill a sample.
