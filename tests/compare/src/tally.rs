@@ -34,7 +34,7 @@ impl Tally {
 impl fmt::Display for Tally {
     fn fmt(&self, f: &mut fmt::Formatter<'_>) -> fmt::Result {
         write!(f, "{} sheets, {} bytes, {} lines answered; by status:", self.sheets, self.bytes, self.lines)?;
-        let counted = self.statuses.iter().enumerate().filter(|(_, &count)| count > 0);
-        counted.map(|(status, count)| write!(f, " {status}: {count}")).collect()
+        let mut counted = self.statuses.iter().enumerate().filter(|(_, &count)| count > 0);
+        counted.try_for_each(|(status, count)| write!(f, " {status}: {count}"))
     }
 }

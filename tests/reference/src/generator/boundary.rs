@@ -39,6 +39,11 @@ fn heading(num_vars: usize, mode: &str) -> String {
     format!("n\t{num_vars}\t{mode}\n")
 }
 
+/// Lines written with | for a tab and parted by spaces.
+fn lines(text: &str) -> String {
+    text.split_whitespace().map(|line| line.replace('|', "\t") + "\n").collect()
+}
+
 /// Decides to the end, back to 0 and a decide once more.
 fn drain(num_vars: usize) -> String {
     "g\t1\n".repeat(num_vars + 1) + "k\t0\ng\t0\n"
@@ -197,11 +202,13 @@ impl Sheets {
 
     /// Each refusal that a sheet can get, and the order in which they are found.
     fn refusals(&mut self, mode: &str) {
-        let calls = "b\t2\ni\t2\no\t2\nr\t2\ne\t4\t-\ne\t4\t9\nu\t4\nf\t2\nf\t0\t1\t2\ng\t2\ng\t4294967295\ne\t0\t1\ne\t0\t4294967294\ne\t0\t4294967295\ne\t0\t0\n\
-                     e\t0\t-\ne\t1\t1\nu\t1\ng\t1\nu\t2\nu\t3\nw\t3fdfffffffffffff\nw\t7ff8000000000000\nw\tfff8000000000000\nw\t7ff0000000000000\nw\t0000000000000000\n\
-                     w\t3fe0000000000000\nw\t3ff0000000000000\nw\t3ff0000000000001\nw\t3fE0000000000000\nc\t1\nn\t1\tvsids\n\n";
-        self.add(format!("{mode}, refusals"), heading(2, mode) + "c\t1\t3\nc\t4\nc\tx\n" + calls);
-        self.add(format!("{mode}, back and stuck"), heading(2, mode) + "g\t1\ng\t1\nk\t0\ng\t2\ng\t1\nu\t1\ng\t1\nu\t3\ng\t1\n");
+        let variables = "b|2 i|2 o|2 r|2 e|4|- e|4|9 u|4 f|2 f|0|1|2 ";
+        let assigned = "g|2 g|4294967295 e|0|1 e|0|4294967294 e|0|4294967295 e|0|0 e|0|- e|1|1 u|1 g|1 u|2 u|3 ";
+        let decays = "w|3fdfffffffffffff w|7ff8000000000000 w|fff8000000000000 w|7ff0000000000000 w|0000000000000000 \
+                      w|3fe0000000000000 w|3ff0000000000000 w|3ff0000000000001 w|3fE0000000000000 ";
+        let calls = lines(variables) + &lines(assigned) + &lines(decays) + &lines("c|1 n|1|vsids") + "\n";
+        self.add(format!("{mode}, refusals"), heading(2, mode) + &lines("c|1|3 c|4 c|x") + &calls);
+        self.add(format!("{mode}, back and stuck"), heading(2, mode) + &lines("g|1 g|1 k|0 g|2 g|1 u|1 g|1 u|3 g|1"));
     }
 
     /// Every byte in the places where bytes are looked up.

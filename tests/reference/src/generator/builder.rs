@@ -180,7 +180,7 @@ impl<'a> Builder<'a> {
     fn wild_number(&mut self) -> u32 {
         let edges = [self.num_vars, self.num_vars + 1, 2 * self.num_vars, self.clauses, 2048, 4_294_967_294, 4_294_967_295];
         match self.rng.below(8) {
-            7 => self.rng.next() as u32,
+            7 => self.rng.word() as u32,
             edge => edges[edge] as u32,
         }
     }
@@ -251,7 +251,7 @@ impl<'a> Builder<'a> {
             self.rng.pick(&DECAYS).into()
         } else {
             // any double from 0.5 up to 1
-            format!("3fe{:013x}", self.rng.next() >> 12)
+            format!("3fe{:013x}", self.rng.word() >> 12)
         }
     }
 
