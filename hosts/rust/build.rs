@@ -1,0 +1,14 @@
+//! Links the proved chooser, `libdesk.a`, from the folder that SIGVORT_LIB_DIR names, or else from where `rt staticlib desk` writes it.
+
+use std::{env, path::PathBuf};
+
+fn main() {
+    let folder = match env::var_os("SIGVORT_LIB_DIR") {
+        Some(folder) => PathBuf::from(folder),
+        None => PathBuf::from(env!("CARGO_MANIFEST_DIR")).join("../../target/staticlib"),
+    };
+    println!("cargo:rerun-if-env-changed=SIGVORT_LIB_DIR");
+    println!("cargo:rerun-if-changed={}", folder.join("libdesk.a").display());
+    println!("cargo:rustc-link-search=native={}", folder.display());
+    println!("cargo:rustc-link-lib=static=desk");
+}

@@ -1,0 +1,24 @@
+//! The fuzzer's target: one sheet, run by both, the answer buffers compared whole.
+
+use std::slice;
+
+const PATTERN: u8 = 0xa5;
+
+/// Runs both on the bytes as a sheet. A difference aborts, and the fuzzer keeps the sheet.
+///
+/// # Safety
+///
+/// `data` is readable for `len` bytes.
+#[no_mangle]
+pub unsafe extern "C" fn LLVMFuzzerTestOneInput(data: *const u8, len: usize) -> i32 {
+    let sheet = if len == 0 { &[] } else { slice::from_raw_parts(data, len) };
+    let newlines = sheet.iter().filter(|&&byte| byte == b'\n').count();
+    // most sheets get the room they need, some a byte less
+    let room = (reference::ANSWER_ROOM * newlines).saturating_sub(usize::from(len % 64 == 63));
+    let mut expected = vec![PATTERN; room];
+    let mut answers = expected.clone();
+    let returned = reference::run(sheet, &mut expected);
+    let proved = sigvort::ffi::sigvort_run(sheet.as_ptr(), len, answers.as_mut_ptr(), room);
+    assert!((returned, &expected) == (proved, &answers), "returned: reference {returned}, proved {proved}");
+    0
+}

@@ -1,0 +1,65 @@
+use super::*;
+use crate::{run, ANSWER_ROOM};
+use std::collections::BTreeSet;
+
+/// The statuses that a sheet's answers hold, 1 and 2 for a refused sheet.
+fn statuses(sheet: &[u8], room: usize) -> BTreeSet<u32> {
+    let mut answers = vec![0; room];
+    match run(sheet, &mut answers) {
+        refused if refused > u32::MAX - 3 => [u32::MAX - refused].into(),
+        len => String::from_utf8(answers[..len as usize].to_vec())
+            .expect("answers are text")
+            .lines()
+            .map(|line| line.split('\t').nth(1).expect("an answer has a status").parse().expect("a status is a number"))
+            .collect(),
+    }
+}
+
+fn is_list(sheet: &[u8]) -> bool {
+    sheet.split(|&byte| byte == b'\n').next().is_some_and(|line| line.ends_with(b"\tvmtf"))
+}
+
+#[test]
+fn named_sheets_reach_each_refusal_in_each_mode() {
+    let mut reached = [BTreeSet::new(), BTreeSet::new()];
+    for Named { sheet, room, .. } in named() {
+        reached[usize::from(is_list(&sheet))].extend(statuses(&sheet, room));
+    }
+    assert_eq!(reached[0], [0, 1, 2, 3, 4, 6, 8, 9, 10, 11, 12, 13].into());
+    assert_eq!(reached[1], [0, 1, 2, 3, 4, 6, 8, 9, 10, 11, 12, 14].into());
+}
+
+#[test]
+fn random_sheets_reach_each_refusal_of_a_call() {
+    let mut reached = [BTreeSet::new(), BTreeSet::new()];
+    for seed in 0..2_000 {
+        let sheet = sheet(seed);
+        reached[usize::from(is_list(&sheet))].extend(statuses(&sheet, ANSWER_ROOM * sheet.len()));
+    }
+    assert!(reached[0].is_superset(&[0, 3, 6, 8, 9, 10, 11, 12, 13].into()), "{:?}", reached[0]);
+    assert!(reached[1].is_superset(&[0, 3, 6, 8, 9, 10, 11, 12, 14].into()), "{:?}", reached[1]);
+}
+
+#[test]
+fn equal_seeds_give_equal_sheets() {
+    assert!((0..50).all(|seed| sheet(seed) == sheet(seed)));
+    assert_ne!(sheet(1), sheet(2));
+}
+
+#[test]
+fn examples_are_read_line_by_line() {
+    let document = "text\n```sheet\nn|1|vsids  → 1|0|-\nx\n```\n```\nno\n```\n";
+    assert_eq!(examples(document), [(b"n\t1\tvsids\nx\n".to_vec(), b"1\t0\t-\n".to_vec())]);
+}
+
+#[test]
+fn the_documents_examples_answer_as_shown() {
+    let document = include_str!("../../../../docs/SHEET.md");
+    let examples = examples(document);
+    assert!(examples.len() > 10);
+    for (sheet, shown) in examples {
+        let mut answers = vec![0; ANSWER_ROOM * sheet.len()];
+        let len = run(&sheet, &mut answers) as usize;
+        assert_eq!(String::from_utf8_lossy(&answers[..len]), String::from_utf8_lossy(&shown));
+    }
+}

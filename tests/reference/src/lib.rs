@@ -1,0 +1,22 @@
+//! A separate chooser to compare the proved one with: JigSAT's `Heap`, `VSIDS` and `VMTF` over vectors, its trail under them and the
+//! call sheet on top. It shares nothing with the Rattle crates. Names and steps are JigSAT's; its licence and origin are in the file
+//! NOTICE of this repository.
+
+mod assignments;
+mod decision;
+mod formula;
+pub mod generator;
+mod heap;
+mod lit;
+mod refusal;
+mod session;
+mod sheet;
+mod trail;
+mod util;
+mod vmtf;
+mod vsids;
+
+pub use sheet::{run, ANSWER_ROOM, MAX_SHEET};
+
+/// The mark for no place, no variable and no reason.
+const INVALID: usize = usize::MAX;

@@ -1,0 +1,17 @@
+/// Why a line of a sheet is refused; the number is the answer's status. 5 and 7 speak of lent memory and cannot come from a sheet.
+#[derive(Clone, Copy, Debug, PartialEq, Eq)]
+#[repr(u8)]
+pub enum Refusal {
+    SheetTooLong = 1,
+    BufferTooShort = 2,
+    Form = 3,
+    TooManyVariables = 4,
+    ClauseList = 6,
+    Variable = 8,
+    Polarity = 9,
+    Reason = 10,
+    Assigned = 11,
+    Decay = 12,
+    Step = 13,
+    Stuck = 14,
+}
