@@ -1,9 +1,13 @@
-// Tries refusals 4 to 14 at the entry points, in each mode where they can come, each on a small memory of its own. A line for each: the
-// mode's letter, the refusal that is due, the status and the reply.
+// Tries refusals 4 to 14 at the entry points, in each mode where they can come, each on a small memory of its own. A line for each: a
+// letter (h and l for calls in heap and list mode, n and m for creation), the refusal that is due, the status and the reply.
+use activity::Step;
 use calls::Call;
 use heap_mode::HeapState;
 use list_mode::ListState;
 use lit::NONE;
+use trail::TrailState;
+use vmtf::VmtfState;
+use vsids::VsidsState;
 
 // What is lent for a call: the number of variables, the lengths of the levels and of a group's scratch, the second literal's code, the
 // second variable's value, the list's search and the heap's step.
@@ -30,6 +34,15 @@ fn good() -> Lent {
     }
 }
 
+// The trail's counts where one variable is assigned at level 0.
+fn one_on_trail() -> TrailState {
+    TrailState {
+        len: 1,
+        level: 0,
+        curr_i: 0,
+    }
+}
+
 // Prints a line.
 fn show(mode: u8, due: u32, status: u32, reply: u32) {
     io::write_all(1, &[mode, b'\t']);
@@ -41,9 +54,8 @@ fn show(mode: u8, due: u32, status: u32, reply: u32) {
     io::write_all(1, &[b'\n']);
 }
 
-// A call in list mode on a session of two variables.
-fn try_list(due: u32, lent: Lent, call: Call) {
-    let clause = [1, 3];
+// Creation in list mode.
+fn make_list(due: u32, lent: Lent) {
     let lits = [1, lent.code];
     let ends = [2];
     let mut values = [2u8; 2];
@@ -56,17 +68,18 @@ fn try_list(due: u32, lent: Lent, call: Call) {
     let mut ts = [0u64; 2];
     let mut counts = [0u32; 2];
     let mut indexes = [0u32; 2];
-    let vars = [1u32; 1];
-    let mut stamps = [0u64; 1];
-    let mut order = [0u32; 1];
-    let made = list_fresh::fresh(
-        2,
+    let k = lent.levels;
+    if k > 2 {
+        return;
+    }
+    let a = list_fresh::fresh(
+        lent.vars,
         2,
         1,
-        &clause,
+        &lits,
         &ends,
         &mut values,
-        &mut levels,
+        &mut levels[..k],
         &mut reasons,
         &mut trail,
         &mut opened,
@@ -76,34 +89,73 @@ fn try_list(due: u32, lent: Lent, call: Call) {
         &mut counts,
         &mut indexes,
     );
-    let first = list_entry::enter(
-        2,
+    show(b'm', due, a.status, a.reply);
+}
+
+// Creation in heap mode.
+fn make_heap(due: u32, lent: Lent) {
+    let lits = [1, lent.code];
+    let ends = [2];
+    let mut values = [2u8; 2];
+    let mut levels = [NONE; 2];
+    let mut reasons = [NONE; 2];
+    let mut trail = [NONE; 2];
+    let mut opened = [NONE; 2];
+    let mut activity = [0.0; 2];
+    let mut heap = [NONE; 2];
+    let mut indices = [NONE; 2];
+    let mut decision = [true; 2];
+    let k = lent.levels;
+    if k > 2 {
+        return;
+    }
+    let a = heap_fresh::fresh(
+        lent.vars,
         2,
         1,
-        &clause,
+        &lits,
         &ends,
         &mut values,
-        &mut levels,
+        &mut levels[..k],
         &mut reasons,
         &mut trail,
         &mut opened,
-        &mut next,
-        &mut prev,
-        &mut ts,
-        made.state,
-        Call::Enqueue(1, NONE),
-        &vars,
-        &mut stamps,
-        &mut order,
+        &mut activity,
+        &mut heap,
+        &mut indices,
+        &mut decision,
     );
-    let mut s = first.state;
-    s.vmtf.search = lent.search;
-    values[1] = lent.value;
+    show(b'n', due, a.status, a.reply);
+}
+
+// A call in list mode.
+fn try_list(due: u32, lent: Lent, call: Call) {
+    let lits = [1, lent.code];
+    let ends = [2];
+    let mut values = [1, lent.value];
+    let mut levels = [0, NONE];
+    let mut reasons = [NONE; 2];
+    let mut trail = [1, NONE];
+    let mut opened = [NONE; 2];
+    let mut next = [1, NONE];
+    let mut prev = [NONE, 0];
+    let mut ts = [2, 1];
+    let vars = [1u32; 1];
+    let mut stamps = [0u64; 1];
+    let mut order = [0u32; 1];
     let k = lent.levels;
     let j = lent.scratch;
     if k > 2 || j > 1 {
         return;
     }
+    let s = ListState {
+        trail: one_on_trail(),
+        vmtf: VmtfState {
+            start: 0,
+            search: lent.search,
+            timestamp: 3,
+        },
+    };
     let a = list_entry::enter(
         lent.vars,
         2,
@@ -127,69 +179,37 @@ fn try_list(due: u32, lent: Lent, call: Call) {
     show(b'l', due, a.status, a.reply);
 }
 
-// The same in heap mode.
+// A call in heap mode.
 fn try_heap(due: u32, lent: Lent, call: Call) {
-    let clause = [1, 3];
     let lits = [1, lent.code];
     let ends = [2];
-    let mut values = [2u8; 2];
-    let mut levels = [NONE; 2];
+    let mut values = [1, lent.value];
+    let mut levels = [0, NONE];
     let mut reasons = [NONE; 2];
-    let mut trail = [NONE; 2];
+    let mut trail = [1, NONE];
     let mut opened = [NONE; 2];
     let mut activity = [0.0; 2];
-    let mut heap = [NONE; 2];
-    let mut indices = [NONE; 2];
+    let mut heap = [0, 1];
+    let mut indices = [0, 1];
     let mut decision = [true; 2];
     let vars = [1u32; 1];
     let stamps = [0u64; 1];
     let order = [0u32; 1];
-    let made = heap_fresh::fresh(
-        2,
-        2,
-        1,
-        &clause,
-        &ends,
-        &mut values,
-        &mut levels,
-        &mut reasons,
-        &mut trail,
-        &mut opened,
-        &mut activity,
-        &mut heap,
-        &mut indices,
-        &mut decision,
-    );
-    let first = heap_entry::enter(
-        2,
-        2,
-        1,
-        &clause,
-        &ends,
-        &mut values,
-        &mut levels,
-        &mut reasons,
-        &mut trail,
-        &mut opened,
-        &mut activity,
-        &mut heap,
-        &mut indices,
-        &mut decision,
-        made.state,
-        Call::Enqueue(1, NONE),
-        &vars,
-        &stamps,
-        &order,
-    );
-    let mut s = first.state;
-    s.vsids.step.inc = lent.inc;
-    s.vsids.step.decay = 0.5;
-    values[1] = lent.value;
     let k = lent.levels;
     let j = lent.scratch;
     if k > 2 || j > 1 {
         return;
     }
+    let s = HeapState {
+        trail: one_on_trail(),
+        vsids: VsidsState {
+            len: 2,
+            step: Step {
+                inc: lent.inc,
+                decay: 0.5,
+            },
+        },
+    };
     let a = heap_entry::enter(
         lent.vars,
         2,
@@ -220,15 +240,23 @@ fn try_both(due: u32, lent: Lent, call: Call) {
     try_list(due, lent, call);
 }
 
+// Creation in both modes.
+fn make_both(due: u32, lent: Lent) {
+    make_heap(due, lent);
+    make_list(due, lent);
+}
+
 // The memory that was lent: sizes, clauses and state, the first that fits.
 fn try_memory() {
     let mut many = good();
     many.vars = 2049;
     many.levels = 1;
+    make_both(4, many);
     try_both(4, many, Call::Decay);
     let mut short = good();
     short.levels = 1;
     short.code = 4;
+    make_both(5, short);
     try_both(5, short, Call::Decay);
     let mut scratch = good();
     scratch.scratch = 0;
@@ -236,9 +264,11 @@ fn try_memory() {
     let mut foreign = good();
     foreign.code = 4;
     foreign.value = 3;
+    make_both(6, foreign);
     try_both(6, foreign, Call::Decay);
     let mut value = good();
     value.value = 3;
+    make_both(0, value);
     try_both(7, value, Call::Bump(2));
 }
 
