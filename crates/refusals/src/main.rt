@@ -9,12 +9,12 @@ use trail::TrailState;
 use vmtf::VmtfState;
 use vsids::VsidsState;
 
-// What is lent for a call: the number of variables, the lengths of the levels and of a group's scratch, the second literal's code, the
-// second variable's value, the list's search and the heap's step.
+// What is lent for a call: the number of variables and of literals as stated, whether a group's variables are left out beside its scratch,
+// the second literal's code, the second variable's value, the list's search and the heap's step.
 pub struct Lent {
     pub vars: u32,
-    pub levels: usize,
-    pub scratch: usize,
+    pub literals: u32,
+    pub empty: bool,
     pub code: u32,
     pub value: u8,
     pub search: u32,
@@ -25,8 +25,8 @@ pub struct Lent {
 fn good() -> Lent {
     Lent {
         vars: 2,
-        levels: 2,
-        scratch: 1,
+        literals: 2,
+        empty: false,
         code: 3,
         value: 2,
         search: 1,
@@ -41,6 +41,14 @@ fn one_on_trail() -> TrailState {
         level: 0,
         curr_i: 0,
     }
+}
+
+// A group's variables, or none of them.
+fn group_of<'a>(vars: &'a [u32], empty: bool) -> &'a [u32] {
+    if empty {
+        return &vars[0..0];
+    }
+    vars
 }
 
 // Prints a line.
@@ -68,18 +76,14 @@ fn make_list(due: u32, lent: Lent) {
     let mut ts = [0u64; 2];
     let mut counts = [0u32; 2];
     let mut indexes = [0u32; 2];
-    let k = lent.levels;
-    if k > 2 {
-        return;
-    }
     let a = list_fresh::fresh(
         lent.vars,
-        2,
+        lent.literals,
         1,
         &lits,
         &ends,
         &mut values,
-        &mut levels[..k],
+        &mut levels,
         &mut reasons,
         &mut trail,
         &mut opened,
@@ -105,18 +109,14 @@ fn make_heap(due: u32, lent: Lent) {
     let mut heap = [NONE; 2];
     let mut indices = [NONE; 2];
     let mut decision = [true; 2];
-    let k = lent.levels;
-    if k > 2 {
-        return;
-    }
     let a = heap_fresh::fresh(
         lent.vars,
-        2,
+        lent.literals,
         1,
         &lits,
         &ends,
         &mut values,
-        &mut levels[..k],
+        &mut levels,
         &mut reasons,
         &mut trail,
         &mut opened,
@@ -143,11 +143,7 @@ fn try_list(due: u32, lent: Lent, call: Call) {
     let vars = [1u32; 1];
     let mut stamps = [0u64; 1];
     let mut order = [0u32; 1];
-    let k = lent.levels;
-    let j = lent.scratch;
-    if k > 2 || j > 1 {
-        return;
-    }
+    let group = group_of(&vars, lent.empty);
     let s = ListState {
         trail: one_on_trail(),
         vmtf: VmtfState {
@@ -158,12 +154,12 @@ fn try_list(due: u32, lent: Lent, call: Call) {
     };
     let a = list_entry::enter(
         lent.vars,
-        2,
+        lent.literals,
         1,
         &lits,
         &ends,
         &mut values,
-        &mut levels[..k],
+        &mut levels,
         &mut reasons,
         &mut trail,
         &mut opened,
@@ -172,8 +168,8 @@ fn try_list(due: u32, lent: Lent, call: Call) {
         &mut ts,
         s,
         call,
-        &vars,
-        &mut stamps[..j],
+        group,
+        &mut stamps,
         &mut order,
     );
     show(b'l', due, a.status, a.reply);
@@ -195,11 +191,7 @@ fn try_heap(due: u32, lent: Lent, call: Call) {
     let vars = [1u32; 1];
     let stamps = [0u64; 1];
     let order = [0u32; 1];
-    let k = lent.levels;
-    let j = lent.scratch;
-    if k > 2 || j > 1 {
-        return;
-    }
+    let group = group_of(&vars, lent.empty);
     let s = HeapState {
         trail: one_on_trail(),
         vsids: VsidsState {
@@ -212,12 +204,12 @@ fn try_heap(due: u32, lent: Lent, call: Call) {
     };
     let a = heap_entry::enter(
         lent.vars,
-        2,
+        lent.literals,
         1,
         &lits,
         &ends,
         &mut values,
-        &mut levels[..k],
+        &mut levels,
         &mut reasons,
         &mut trail,
         &mut opened,
@@ -227,8 +219,8 @@ fn try_heap(due: u32, lent: Lent, call: Call) {
         &mut decision,
         s,
         call,
-        &vars,
-        &stamps[..j],
+        group,
+        &stamps,
         &order,
     );
     show(b'h', due, a.status, a.reply);
@@ -250,16 +242,19 @@ fn make_both(due: u32, lent: Lent) {
 fn try_memory() {
     let mut many = good();
     many.vars = 2049;
-    many.levels = 1;
     make_both(4, many);
     try_both(4, many, Call::Decay);
-    let mut short = good();
-    short.levels = 1;
-    short.code = 4;
-    make_both(5, short);
-    try_both(5, short, Call::Decay);
+    let mut three = good();
+    three.vars = 3;
+    three.code = 6;
+    make_both(5, three);
+    try_both(5, three, Call::Decay);
+    let mut stated = good();
+    stated.literals = 3;
+    make_both(5, stated);
+    try_both(5, stated, Call::Decay);
     let mut scratch = good();
-    scratch.scratch = 0;
+    scratch.empty = true;
     try_both(5, scratch, Call::Group);
     let mut foreign = good();
     foreign.code = 4;
