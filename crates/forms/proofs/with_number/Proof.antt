@@ -1,0 +1,67 @@
+-- `forms::with_number` meets its contract: each number is its kind's, and the others have no such call.
+use mathlib.Core.Path.{_≡_, refl, sym}
+use mathlib.Core.Bool.{cond}
+use mathlib.Core.Option.{none}
+use Prim.Native.Nat.{ℕ}
+use borrow.Author.Needs.{needs}
+use borrow.Author.Tests.{eqb-true}
+use lib.Dec.{eqb}
+use Rattle.laws.specs.Tests.{cond-elim}
+use Rattle.forms.specs.Forms.{Kind, bumps, decays, setsDecay, inserts, switchesOff, decides, enqueues, learnsUnit, goesBack, bumpsReason, movesGroup, isClause, isFirst}
+use Rattle.forms.specs.Kinds.{ofNumber}
+use Rattle.forms.specs.Read.{numbered}
+use Rattle.forms.proofs.with_number.Statement.{statement}
+use Rattle.forms.proofs.with_number.Tie as tie
+
+returns : tie.Need-returns
+returns c = record { is = rw (c .match .keys1); within = search needs }
+
+returns-2 : tie.Need-returns-2
+returns-2 c = record { is = rw (c .match .keys2); within = search needs }
+
+returns-3 : tie.Need-returns-3
+returns-3 c = record { is = rw (c .match .keys3); within = search needs }
+
+returns-4 : tie.Need-returns-4
+returns-4 c = record { is = rw (c .match .keys4); within = search needs }
+
+returns-5 : tie.Need-returns-5
+returns-5 c = record { is = rw (c .match .keys5); within = search needs }
+
+returns-6 : tie.Need-returns-6
+returns-6 c = record { is = rw (c .match .keys6); within = search needs }
+
+returns-7 : tie.Need-returns-7
+returns-7 c = record { is = rw (c .match .keys7); within = search needs }
+
+-- a number past these: the next kind in the rule is none of theirs, or the number is not its
+module _ (k v : ℕ) where
+  record No (x : Kind) : Type 0 where
+    pub is : numbered x v ≡ none
+
+  not : (i : ℕ) (x : Kind) {rest : Kind} → (k ≡ i → No x) → No rest → No (cond (eqb k i) x rest)
+  not i x h other = cond-elim No (eqb k i) (λ t. h (eqb-true k i t)) (λ f. other)
+
+returns-8 : tie.Need-returns-8
+returns-8 c =
+    let k = c .before .args .k in
+    let v = c .before .args .v in
+    let n = c .match .rest in
+    let no : No k v (ofNumber k) =
+    not k v 1 bumps (λ e. absurd (n .0 .0 .0 .0 .0 .0 .1 e)) (
+    not k v 2 decays (λ e. record { is = refl }) (
+    not k v 3 setsDecay (λ e. record { is = refl }) (
+    not k v 4 inserts (λ e. absurd (n .0 .0 .0 .0 .0 .1 e)) (
+    not k v 5 switchesOff (λ e. absurd (n .0 .0 .0 .0 .1 e)) (
+    not k v 6 decides (λ e. absurd (n .0 .0 .0 .1 e)) (
+    not k v 7 enqueues (λ e. record { is = refl }) (
+    not k v 8 learnsUnit (λ e. absurd (n .0 .0 .1 e)) (
+    not k v 9 goesBack (λ e. absurd (n .0 .1 e)) (
+    not k v 10 bumpsReason (λ e. absurd (n .1 e)) (
+    not k v 11 movesGroup (λ e. record { is = refl }) (
+    not k v 12 isClause (λ e. record { is = refl }) (
+    not k v 13 isFirst (λ e. record { is = refl }) (record { is = refl }))))))))))))) in
+    record { is = sym (no .is); within = search needs }
+
+pub with-number-spec : {M : Type 1} → statement M
+with-number-spec = tie.close (tie.spec returns returns-2 returns-3 returns-4 returns-5 returns-6 returns-7 returns-8)

@@ -1,0 +1,9 @@
+-- The forms of a sheet's lines.
+pub mod Forms
+pub mod Kinds
+pub mod Behind
+pub mod Laws
+pub mod Read
+pub mod Counting
+pub mod Told
+pub mod Lines

@@ -1,0 +1,89 @@
+-- What an answer of code tells of what was read. Assumes nothing.
+use mathlib.Core.Path.{_≡_, refl, sym, ap, _∙_}
+use mathlib.Core.Bool.{cond}
+use mathlib.Core.Option.{Option, none, some}
+use mathlib.Core.List.{List, []}
+use Prim.Native.Nat.{ℕ, _≤_, _<_}
+use native.Mathlib.Omega.{arith}
+use lib.Dec.{leb}
+use lib.ListN.{length, take}
+use borrow.Author.Tests.{le-leb, lt-leb}
+use Rattle.lit.specs.Numbers.{maxGroup}
+use Rattle.text.specs.declared.Whole.the-variants as a-whole
+use Rattle.text.specs.declared.Bits.the-variants as a-pattern
+use Rattle.text.specs.Read.{wholeOf, bitsOf}
+use Rattle.calls.specs.declared.Call.the-variants as variant
+use Rattle.book.specs.Calls.{Call, group}
+use Rattle.forms.specs.declared.Read as read
+use Rattle.forms.specs.declared.Read.the-variants as a-call
+use Rattle.forms.specs.declared.Count as count
+use Rattle.forms.specs.declared.Count.the-variants as a-count
+use Rattle.forms.specs.Forms.{movesGroup, given, numbers, callWith}
+use Rattle.forms.specs.Read.{CallRead, Counted}
+
+pub whole-is : (o : Option ℕ) {v : ℕ} → wholeOf o ≡ a-whole.Is v → o ≡ some v
+whole-is none e = let z : _≡_ {A = ℕ} 0 1 = cc in absurd (omega arith)
+whole-is (some n) e = cc
+
+pub whole-bad : (o : Option ℕ) → wholeOf o ≡ a-whole.Bad → o ≡ none
+whole-bad none e = refl
+whole-bad (some n) e = let z : _≡_ {A = ℕ} 0 1 = cc in absurd (omega arith)
+
+pub bits-are : (o : Option ℕ) {p : ℕ} → bitsOf o ≡ a-pattern.Are p → o ≡ some p
+bits-are none e = let z : _≡_ {A = ℕ} 0 1 = cc in absurd (omega arith)
+bits-are (some n) e = cc
+
+pub bits-bad : (o : Option ℕ) → bitsOf o ≡ a-pattern.Bad → o ≡ none
+bits-bad none e = refl
+bits-bad (some n) e = let z : _≡_ {A = ℕ} 0 1 = cc in absurd (omega arith)
+
+-- k numbers were read, and stand in out if it has room for them
+pub record Held (o : Option (List ℕ)) (k : ℕ) (out : List ℕ) : Type 0 where
+  pub numbers : List ℕ
+  pub is : o ≡ some numbers
+  pub count : length numbers ≡ k
+  pub held : k ≤ length out → take k out ≡ numbers
+
+module _ {r : count.Count} (out : List ℕ) where
+  pub counted-bad : (o : Option (List ℕ)) → Counted o r out → r ≡ a-count.Bad → o ≡ none
+  counted-bad none c e = refl
+  counted-bad (some ns) c e = let d = c .0 in let z : _≡_ {A = ℕ} 0 1 = cc in absurd (omega arith)
+
+  pub counted-are : (o : Option (List ℕ)) {k : ℕ} → Counted o r out → r ≡ a-count.Are k → Held o k out
+  counted-are none c e = let z : _≡_ {A = ℕ} 0 1 = cc in absurd (omega arith)
+  counted-are (some ns) {k} c e =
+      let d = c .0 in
+      let same : length ns ≡ k = cc in
+      record { numbers = ns; is = refl; count = same; held = rw same at (c .1) }
+
+-- a call with no variables beside it reads the same beside any
+pub beside-any : {c : Option Call} (r : read.Read) (vars : List ℕ) → CallRead c r [] → CallRead c r vars
+beside-any a-call.Bad vars h = record { is = h .is; within = omega arith }
+beside-any (a-call.Is x k) vars h =
+    let z : k ≡ 0 = omega (arith, h .within) in
+    record { is = rw z (rw z at (h .is)); within = omega arith }
+
+-- a group: its numbers, unless they are too many
+given-twice : {A B C : Type 0} (o : Option A) (f : A → Option B) (g : B → Option C) → given o (λ x. given (f x) g) ≡ given (given o f) g
+given-twice none f g = refl
+given-twice (some x) f g = refl
+
+grouped : List ℕ → Option Call
+grouped vs = cond (leb (length vs) maxGroup) (some (group vs)) none
+
+module _ (fs : Option (List (List ℕ))) (vars : List ℕ) where
+  group-of : given fs (callWith movesGroup) ≡ given (given fs numbers) grouped
+  unfolding grouped
+  group-of = given-twice fs numbers grouped
+
+  pub group-bad : given fs numbers ≡ none → CallRead (given fs (callWith movesGroup)) a-call.Bad vars
+  group-bad e = rw (group-of, e) (record { is = refl; within = omega arith })
+
+  module _ {k : ℕ} (h : Held (given fs numbers) k vars) where
+    pub group-long : maxGroup < k → CallRead (given fs (callWith movesGroup)) a-call.Bad vars
+    unfolding grouped
+    group-long l = record { is = sym (group-of ∙ rw (h .is, h .count, lt-leb k maxGroup l)); within = omega arith }
+
+    pub group-is : k ≤ maxGroup → length vars ≡ maxGroup → CallRead (given fs (callWith movesGroup)) (a-call.Is variant.Group k) vars
+    unfolding grouped
+    group-is l e = record { is = ap (λ (vs : List ℕ). some (group vs)) (h .held (omega arith)) ∙ sym (group-of ∙ rw (h .is, h .count, le-leb k maxGroup l)); within = omega arith }

@@ -1,0 +1,2 @@
+-- Term 3 for a sheet.
+pub mod Term3

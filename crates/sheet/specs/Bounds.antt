@@ -1,0 +1,105 @@
+-- How long an answer is: at most 20 bytes of the 24 that the buffer has for each line. Assumes nothing.
+use Prim.Native.Nat.{ℕ, _≤_, _<_}
+use mathlib.Core.Path.{_≡_, refl}
+use mathlib.Core.Bool.{Bool, true, false}
+use mathlib.Core.Option.{Option, none, some}
+use mathlib.Core.List.{List, [], _∷_, _++_}
+use native.Mathlib.Omega.{arith}
+use borrow.Author.Tests.{ne-eqb}
+use lib.ListN.{length, length-append}
+use Rattle.lit.specs.Numbers.{NONE, answerRoom}
+use Rattle.formula.specs.Clauses.{clauseFits}
+use Rattle.choosers.specs.Heap.{heapOps}
+use Rattle.choosers.specs.List.{listOps}
+use Rattle.book.specs.Calls.{Call, bump, decay, setDecay, insert, switchOff, decide, enqueue, learnUnit, goBack, bumpReason, group}
+use Rattle.book.specs.Chooser.{Next, chose, nothing, stuck, Operations}
+use Rattle.book.specs.Session.{Result, done, refuse, status, need, Session, tuned, decided, call}
+use Rattle.calls.specs.Entry.{replyNumber}
+use Rattle.text.specs.Text.{tab, newline, digits}
+use Rattle.text.specs.Laws.{digits-two, digits-five, digits-room}
+use Rattle.forms.specs.Forms.{Mode, callIn, codesIn}
+use Rattle.sheet.specs.Sheet.{Stage, reading, inHeap, inList, called, staged, clauseWith, turn, replyText, replyOf, field, ending, answerLine}
+
+-- five digits, two and ten, two tabs and a newline
+reply-short : (r : Option ℕ) → length (replyText r) ≤ 10
+reply-short none = omega arith
+reply-short (some r) = digits-room 10 r
+
+pub answer-short : (i k : ℕ) (r : Option ℕ) → i < 100000 → k < 100 → length (answerLine i k r) ≤ answerRoom
+unfolding answerLine field ending
+answer-short i k r five two =
+    omega (
+      arith,
+      length-append (digits i ++ (tab ∷ [])) ((digits k ++ (tab ∷ [])) ++ (replyText r ++ (newline ∷ []))),
+      length-append (digits k ++ (tab ∷ [])) (replyText r ++ (newline ∷ [])),
+      length-append (digits i) (tab ∷ []),
+      length-append (digits k) (tab ∷ []),
+      length-append (replyText r) (newline ∷ []),
+      digits-five i five,
+      digits-two k two,
+      reply-short r,
+    )
+
+-- the status is 0 or a refusal, none of which is above 14
+abbrev pub Few : {S : Type 0} → Result S → Type 0
+Few x = status x < 100
+
+need-few : {S : Type 0} (b : Bool) (k : ℕ) (x : Result S) → k < 100 → Few x → Few (need b k x)
+unfolding need
+need-few true k x h q = q
+need-few false k x h q = h
+
+module _ (n m : ℕ) (O : Operations) where
+  tuned-few : (s : Session n m O) (c : Option (O .State)) → Few (tuned n m O s c)
+  unfolding tuned
+  tuned-few s none = omega arith
+  tuned-few s (some c) = omega arith
+
+  decided-few : (p : ℕ) (s : Session n m O) (x : Next (O .State)) → Few (decided n m O p s x)
+  unfolding decided
+  decided-few p s (chose v c) = omega arith
+  decided-few p s (nothing c) = omega arith
+  decided-few p s stuck = omega arith
+
+  call-few : (s : Session n m O) (c : Call) → Few (call n m O s c)
+  unfolding call
+  call-few s (bump v) = need-few _ _ _ (omega arith) (tuned-few s _)
+  call-few s decay = tuned-few s _
+  call-few s (setDecay d) = need-few _ _ _ (omega arith) (tuned-few s _)
+  call-few s (insert v) = need-few _ _ _ (omega arith) (omega arith)
+  call-few s (switchOff v) = need-few _ _ _ (omega arith) (omega arith)
+  call-few s (decide p) = need-few _ _ _ (omega arith) (decided-few p s _)
+  call-few s (enqueue code reason) = need-few _ _ _ (omega arith) (need-few _ _ _ (omega arith) (need-few _ _ _ (omega arith) (omega arith)))
+  call-few s (learnUnit code) = need-few _ _ _ (omega arith) (need-few _ _ _ (omega arith) (omega arith))
+  call-few s (goBack l) = omega arith
+  call-few s (bumpReason v) = need-few _ _ _ (omega arith) (tuned-few s _)
+  call-few s (group vs) = need-few _ _ _ (omega arith) (tuned-few s _)
+
+  pub status-small : (s : Session n m O) (c : Option Call) → status (called n m O s c) < 100
+  unfolding called
+  status-small s none = omega arith
+  status-small s (some c) = call-few s c
+
+staged-few : {S : Type 0} (stage : S → Stage) (x : Result S) → Few x → Few (staged stage x)
+staged-few stage (done r s) q = q
+staged-few stage (refuse k) q = q
+
+clause-few : (mode : Mode) (n : ℕ) (lits ends : List ℕ) (codes : Option (List ℕ)) → Few (clauseWith mode n lits ends codes)
+clause-few mode n lits ends none = omega arith
+clause-few mode n lits ends (some codes) = need-few (clauseFits n (length ends) (length lits) codes) _ _ (omega arith) (omega arith)
+
+-- so it is of every line
+pub turn-small : (stage : Stage) (line : List ℕ) → status (turn stage line) < 100
+turn-small (reading mode n lits ends) line = clause-few mode n lits ends (codesIn line)
+turn-small (inHeap n lits ends s) line = staged-few (inHeap n lits ends) (called n (length ends) (heapOps n lits ends) s (callIn line)) (status-small n (length ends) (heapOps n lits ends) s (callIn line))
+turn-small (inList n lits ends s) line = staged-few (inList n lits ends) (called n (length ends) (listOps n lits) s (callIn line)) (status-small n (length ends) (listOps n lits) s (callIn line))
+
+-- none, or a number that is not the one for none
+abbrev pub Small : Option ℕ → Type 0
+Small none = Unit {0}
+Small (some r) = r < NONE
+
+-- such a reply is what its number says
+pub answer-text : (o : Option ℕ) → Small o → replyOf (replyNumber o) ≡ o
+answer-text none h = refl
+answer-text (some r) h = rw (ne-eqb r NONE (λ e. omega arith))

@@ -1,0 +1,43 @@
+// The run of a call sheet: the answer lines.
+ghost use Prim.Native.Nat.{_+_, _≤_};
+ghost use lib.ListN.{length};
+ghost use Rattle.sheet.specs.Sheet.{replyOf, field, ending, answerLine};
+ghost use Rattle.sheet.specs.Writing.{Wrote};
+use lit::NONE;
+use text::NEWLINE;
+use text::TAB;
+
+// Writes a number and a tab from a place on, and gives the place behind them.
+fn put_field(out: &mut [u8], at: usize, v: u32) -> usize
+    requires { ⌜ at + length (field v) ≤ length (now out) ⌝ }
+    ensures { λ r. ⌜ Wrote at (field v) (now (out .entry)) (now (out .exit)) r ⌝ }
+{
+    let k = text::put_number(out, at, v);
+    out[k] = TAB;
+    k + 1
+}
+
+// Writes a reply, `-` for none, and a newline.
+fn put_ending(out: &mut [u8], at: usize, reply: u32) -> usize
+    requires { ⌜ at + length (ending (replyOf reply)) ≤ length (now out) ⌝ }
+    ensures { λ r. ⌜ Wrote at (ending (replyOf reply)) (now (out .entry)) (now (out .exit)) r ⌝ }
+{
+    if reply == NONE {
+        out[at] = 45;
+        out[at + 1] = NEWLINE;
+        return at + 2;
+    }
+    let k = text::put_number(out, at, reply);
+    out[k] = NEWLINE;
+    k + 1
+}
+
+// Writes the answer to a line from a place on, and gives the place behind it.
+pub fn answer(out: &mut [u8], at: usize, line: u32, status: u32, reply: u32) -> usize
+    requires { ⌜ at + length (answerLine line status (replyOf reply)) ≤ length (now out) ⌝ }
+    ensures { λ r. ⌜ Wrote at (answerLine line status (replyOf reply)) (now (out .entry)) (now (out .exit)) r ⌝ }
+{
+    let a = put_field(out, at, line);
+    let b = put_field(out, a, status);
+    put_ending(out, b, reply)
+}

@@ -1,0 +1,15 @@
+-- What code reads, as code has it.
+use Prim.Native.Nat.{ℕ}
+use mathlib.Core.Option.{Option, none, some}
+use Rattle.text.specs.declared.Whole as whole
+use Rattle.text.specs.declared.Whole.the-variants as a-whole
+use Rattle.text.specs.declared.Bits as bits
+use Rattle.text.specs.declared.Bits.the-variants as a-pattern
+
+abbrev pub wholeOf : Option ℕ → whole.Whole
+wholeOf none = a-whole.Bad
+wholeOf (some n) = a-whole.Is n
+
+abbrev pub bitsOf : Option ℕ → bits.Bits
+bitsOf none = a-pattern.Bad
+bitsOf (some p) = a-pattern.Are p

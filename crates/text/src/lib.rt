@@ -1,0 +1,133 @@
+// The text of a call sheet: places of bytes, whole numbers, bit patterns, and the digits of answers.
+ghost use mathlib.Core.Path.{_≡_};
+ghost use mathlib.Core.Bool.{cond};
+ghost use Prim.Native.Nat.{_+_, _≤_};
+ghost use lib.Ieee.{binary64, ofBits};
+ghost use lib.ListN.{length};
+ghost use Rattle.text.specs.Text as spec;
+ghost use Rattle.text.specs.Read.{wholeOf, bitsOf};
+use lit::NONE;
+
+pub const TAB: u8 = 9;
+
+pub const NEWLINE: u8 = 10;
+
+// A whole number, or none where the bytes do not have its form.
+pub enum Whole {
+    Is(u32),
+    Bad,
+}
+
+// The 64 bits of a double, or none where the bytes do not have their form.
+pub enum Bits {
+    Are(u64),
+    Bad,
+}
+
+// The place of the first such byte, or the length.
+pub fn find(bytes: &[u8], b: u8) -> usize
+    ensures { λ r. ⌜ r ≡ spec.find b (now (bytes .entry)) ⌝ }
+{
+    let mut i = 0;
+    while i < bytes.len() && bytes[i] != b {
+        i += 1;
+    }
+    i
+}
+
+// How often a byte stands in the bytes.
+pub fn occurs(bytes: &[u8], b: u8) -> usize
+    ensures { λ r. ⌜ r ≡ spec.occurs b (now (bytes .entry)) ⌝ }
+{
+    let mut count = 0;
+    let mut i = 0;
+    while i < bytes.len() {
+        if bytes[i] == b {
+            count += 1;
+        }
+        i += 1;
+    }
+    count
+}
+
+// A whole number in decimal: no leading zero, at most 4294967295.
+pub fn number(field: &[u8]) -> Whole
+    ensures { λ r. ⌜ r ≡ wholeOf (spec.number (now (field .entry))) ⌝ }
+{
+    if field.len() == 0 {
+        return Whole::Bad;
+    }
+    if field[0] == 48 && field.len() > 1 {
+        return Whole::Bad;
+    }
+    let mut v: u64 = 0;
+    let mut i = 0;
+    while i < field.len() {
+        let b = field[i];
+        if b < 48 || b > 57 {
+            return Whole::Bad;
+        }
+        v = v * 10 + (b - 48) as u64;
+        if v > NONE as u64 {
+            return Whole::Bad;
+        }
+        i += 1;
+    }
+    Whole::Is(v as u32)
+}
+
+// The value of a lower-case hexadecimal digit, or 16 where the byte is none.
+fn hex_digit(b: u8) -> u8
+    ensures { λ r. ⌜ r ≡ cond (spec.isHex b) (spec.hexDigit b) 16 ⌝ }
+{
+    if b >= 48 && b <= 57 {
+        return b - 48;
+    }
+    if b >= 97 && b <= 102 {
+        return b - 87;
+    }
+    16
+}
+
+// A pattern of 64 bits as 16 lower-case hexadecimal digits.
+pub fn pattern(field: &[u8]) -> Bits
+    ensures { λ r. ⌜ r ≡ bitsOf (spec.pattern (now (field .entry))) ⌝ }
+{
+    if field.len() != 16 {
+        return Bits::Bad;
+    }
+    let mut v: u64 = 0;
+    let mut i = 0;
+    while i < 16 {
+        let d = hex_digit(field[i]);
+        if d == 16 {
+            return Bits::Bad;
+        }
+        v = v * 16 + d as u64;
+        i += 1;
+    }
+    Bits::Are(v)
+}
+
+// The double of a pattern; every pattern of a NaN gives a NaN.
+pub fn double(bits: u64) -> f64
+    ensures { λ r. ⌜ r ≡ ofBits binary64 bits ⌝ }
+{
+    if bits % 9223372036854775808 > 9218868437227405312 {
+        return 0.0 / 0.0;
+    }
+    f64::from_bits(bits)
+}
+
+// Writes the decimal digits of a number from a place on, and gives the place behind them.
+pub fn put_number(out: &mut [u8], at: usize, v: u32) -> usize
+    requires { ⌜ at + length (spec.digits v) ≤ length (now out) ⌝ }
+    ensures { λ r. ⌜ (now (out .exit) ≡ spec.written at (spec.digits v) (now (out .entry))) × (r ≡ at + length (spec.digits v)) ⌝ }
+{
+    let mut from = at;
+    if v >= 10 {
+        from = put_number(out, at, v / 10);
+    }
+    out[from] = 48 + (v % 10) as u8;
+    from + 1
+}
