@@ -4,3 +4,4 @@ pub mod Claim
 pub mod Writing
 pub mod Bounds
 pub mod Replies
+pub mod Called
