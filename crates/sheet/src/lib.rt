@@ -1,11 +1,16 @@
-// The run of a call sheet: the answer lines.
-ghost use Prim.Native.Nat.{_+_, _≤_};
+// The run of a call sheet: the answer lines, and the place of a run in the sheet and in the answer buffer.
+ghost use mathlib.Core.Path.{_≡_};
+ghost use Prim.Native.Nat.{_+_, _≤_, _<_};
 ghost use lib.ListN.{length};
+ghost use Rattle.lit.specs.Numbers.{maxSheet};
 ghost use Rattle.sheet.specs.Sheet.{replyOf, field, ending, answerLine};
 ghost use Rattle.sheet.specs.Writing.{Wrote};
+ghost use Rattle.sheet.specs.Running.{after};
 use lit::NONE;
 use text::NEWLINE;
 use text::TAB;
+
+pub mod clauses;
 
 // Writes a number and a tab from a place on, and gives the place behind them.
 fn put_field(out: &mut [u8], at: usize, v: u32) -> usize
@@ -40,4 +45,25 @@ pub fn answer(out: &mut [u8], at: usize, line: u32, status: u32, reply: u32) -> 
     let a = put_field(out, at, line);
     let b = put_field(out, a, status);
     put_ending(out, b, reply)
+}
+
+// Where a run stands: the place in the sheet, how many lines are left, the number of the next, and the place in the answer buffer.
+pub struct Place {
+    pub from: usize,
+    pub left: u32,
+    pub line: u32,
+    pub at: usize,
+}
+
+// The place behind a line that ends at `end` and has been answered up to `at`.
+pub fn behind(p: Place, end: usize, at: usize) -> Place
+    requires { ⌜ (0 < p .left) × (p .line ≤ maxSheet) × (end < maxSheet) ⌝ }
+    ensures { λ r. ⌜ r ≡ after p end at ⌝ }
+{
+    Place {
+        from: end + 1,
+        left: p.left - 1,
+        line: p.line + 1,
+        at: at,
+    }
 }

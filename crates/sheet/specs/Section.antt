@@ -1,0 +1,91 @@
+-- The clause section, line by line: what adding a line's clause and writing its answer leaves. Assumes nothing.
+use Prim.Native.Nat.{ℕ, _+_, _≤_, _<_}
+use mathlib.Core.Path.{_≡_, refl, sym, ap, subst, _∙_}
+use mathlib.Core.Logic.{by-cases}
+use mathlib.Core.Bool.{true, false≢true}
+use mathlib.Core.Option.{none}
+use mathlib.Core.List.{List}
+use native.Mathlib.Omega.{arith}
+use native.Mathlib.Decide.{decLt}
+use lib.ListN.{length, take}
+use Rattle.lit.specs.Numbers.{answerRoom}
+use Rattle.formula.specs.Good.{GoodClauses}
+use Rattle.book.specs.Session.{status, reply}
+use Rattle.forms.specs.Forms.{Mode, vsids, beginsClause, codesIn}
+use Rattle.sheet.specs.declared.clauses.Added.{Added}
+use Rattle.sheet.specs.declared.clauses.Section.{Section}
+use Rattle.sheet.specs.Sheet.{Stage, answerLine}
+use Rattle.sheet.specs.Writing.{Wrote, same-room}
+use Rattle.sheet.specs.Bounds.{answer-short, turn-small}
+use Rattle.sheet.specs.Running.{linesFrom, lineLength, lineFrom, after, SameEnd, nextClause, stageOf, clauseOf, ClauseAdded, Ready, SoFar}
+use Rattle.sheet.specs.Steps.{same-end, lines-over, lines-more, answer-room, room-behind, end-behind}
+use Rattle.sheet.specs.ClauseLines.{clause-reply, GoodStage, clause-good}
+
+-- no line is answered yet, or one after another
+pub so-far-none : {n : ℕ} {sheet : List ℕ} {s : Section} {out lits ends : List ℕ} → Ready n sheet s out lits ends → SoFar n sheet s out lits ends s out lits ends
+so-far-none ready = record { ready = ready; end = λ mode. record { buffer = refl; count = refl }; out-same = refl; lits-same = refl; ends-same = refl }
+
+pub so-far-more : {n : ℕ} {sheet : List ℕ} {s u v : Section} {out lits ends out′ lits′ ends′ out″ lits″ ends″ : List ℕ}
+    → SoFar n sheet s out lits ends u out′ lits′ ends′ → SoFar n sheet u out′ lits′ ends′ v out″ lits″ ends″ → SoFar n sheet s out lits ends v out″ lits″ ends″
+so-far-more a b = record {
+  ready = b .ready;
+  end = λ mode. same-end (a .end mode) (b .end mode);
+  out-same = b .out-same ∙ a .out-same;
+  lits-same = b .lits-same ∙ a .lits-same;
+  ends-same = b .ends-same ∙ a .ends-same;
+}
+
+module _ {n : ℕ} {sheet out lits ends : List ℕ} {s : Section} (ready : Ready n sheet s out lits ends) (next : nextClause (linesFrom sheet (s .place .from)) ≡ true) where
+  abbrev line : List ℕ
+  line = lineFrom sheet (s .place .from)
+
+  -- there is such a line
+  pub clause-more : 0 < s .place .left
+  clause-more =
+      by-cases (decLt 0 (s .place .left))
+      (λ some. some)
+      (λ none. absurd (false≢true (sym (ap (λ (ls : List (List ℕ)). nextClause ls) (lines-over (ready .room) (omega arith))) ∙ next)))
+
+  is-clause : beginsClause line ≡ true
+  is-clause = sym (ap (λ (ls : List (List ℕ)). nextClause ls) (lines-more (ready .room) clause-more)) ∙ next
+
+  module _ {a : Added} {lits′ ends′ : List ℕ} (added : (mode : Mode) → ClauseAdded mode n (codesIn line) lits ends (s .literals) (s .clauses) a lits′ ends′) where
+    -- the answer fits its room, and the buffer
+    short : length (answerLine (s .place .line) (a .status) none) ≤ answerRoom
+    short =
+        let few : a .status < 100 = subst (λ (k : ℕ). k < 100) (sym (added vsids .status)) (turn-small (stageOf vsids n lits ends s) line) in
+        answer-short (s .place .line) (a .status) none (omega (arith, ready .room .numbered, clause-more)) few
+
+    pub answer-fits : s .place .at + length (answerLine (s .place .line) (a .status) none) ≤ length out
+    answer-fits = answer-room (ready .room) clause-more (answerLine (s .place .line) (a .status) none) short
+
+    good : GoodClauses n (take (a .literals) lits′) (take (a .clauses) ends′)
+    good = subst (λ (u : Stage). GoodStage u) (sym (added vsids .stage)) (clause-good vsids n (take (s .literals) lits) (take (s .clauses) ends) (ready .good) (codesIn line))
+
+    module _ (lits-same : length lits′ ≡ length lits) (ends-same : length ends′ ≡ length ends) {out′ : List ℕ} {k : ℕ} (wrote : Wrote (s .place .at) (answerLine (s .place .line) (a .status) none) out out′ k) where
+      abbrev behind : Section
+      behind = record { place = after (s .place) (s .place .from + lineLength sheet (s .place .from)) k; literals = a .literals; clauses = a .clauses }
+
+      ready-behind : Ready n sheet behind out′ lits′ ends′
+      ready-behind = record {
+        room = room-behind (ready .room) clause-more wrote short;
+        slices = record {
+          lits-long = lits-same ∙ ready .slices .lits-long;
+          ends-long = ends-same ∙ ready .slices .ends-long;
+          few-literals = added vsids .few-literals;
+          few-clauses = added vsids .few-clauses;
+        };
+        good = good;
+      }
+
+      end-as-clause : (mode : Mode) → SameEnd sheet (s .place) (stageOf mode n lits ends s) out (behind .place) (stageOf mode n lits′ ends′ behind) out′
+      end-as-clause mode =
+          let x = clauseOf mode n lits ends (s .literals) (s .clauses) (codesIn line) in
+          let w : Wrote (s .place .at) (answerLine (s .place .line) (status x) (reply x)) out out′ k =
+          rw (sym (added mode .status), clause-reply mode n (take (s .literals) lits) (take (s .clauses) ends) (codesIn line)) wrote in
+          subst (λ (u : Stage). SameEnd sheet (s .place) (stageOf mode n lits ends s) out (behind .place) u out′) (sym (added mode .stage))
+          ((rw is-clause at (end-behind (ready .room) clause-more (stageOf mode n lits ends s) {out′ = out′} {k = k})) w)
+
+      -- the line is answered, and the run goes on behind it
+      pub so-far-one : SoFar n sheet s out lits ends behind out′ lits′ ends′
+      so-far-one = record { ready = ready-behind; end = end-as-clause; out-same = same-room wrote; lits-same = lits-same; ends-same = ends-same }
