@@ -11,8 +11,8 @@ ghost use Rattle.calls.specs.Entry.{Answered};
 ghost use Rattle.list_mode.specs.Memory.{sessionOf};
 ghost use Rattle.list_mode.specs.Good.{GoodSession};
 ghost use Rattle.forms.specs.Forms.{callIn};
-ghost use Rattle.sheet.specs.Sheet.{called};
-ghost use Rattle.sheet.specs.Running.{Room};
+ghost use Rattle.sheet.specs.Sheet.{called, inList};
+ghost use Rattle.sheet.specs.Running.{Room, finished, total};
 ghost use Rattle.list_run.specs.Lines.{ListAlong};
 use forms::Read;
 use list_mode::ListAnswer;
@@ -134,4 +134,53 @@ fn next_line(
     let q = sheet::behind(p, end, at);
     let t = a.state;
     ListPlace { place: q, state: t }
+}
+
+// Does the lines that are left and answers them, and gives the place behind the answers.
+pub fn list_lines(
+    sheet: &[u8],
+    out: &mut [u8],
+    n: u32,
+    ends: &[u32],
+    values: &mut [u8],
+    levels: &mut [u32],
+    reasons: &mut [u32],
+    trail: &mut [u32],
+    opened: &mut [u32],
+    next: &mut [u32],
+    prev: &mut [u32],
+    ts: &mut [u64],
+    vars: &mut [u32],
+    stamps: &mut [u64],
+    order: &mut [u32],
+    s: ListPlace,
+) -> usize
+    requires { ⌜ Room (now sheet) (s .place) (now out) × (length (now ends) ≤ number.maxClauses) ⌝ }
+    requires { ⌜ GoodSession n (length (now ends)) (trailOf (now values) (now levels) (now reasons) (now trail) (now opened) (s .state .trail)) (vmtfOf (now next) (now prev) (now ts) (s .state .vmtf)) ⌝ }
+    requires { ⌜ (length (now vars) ≡ number.maxGroup) × (length (now stamps) ≡ number.maxGroup) × (length (now order) ≡ number.maxGroup) ⌝ }
+    ensures { λ r. ⌜ ((lits : List ℕ) → now (out .exit) ≡ finished (now (sheet .entry)) (s .place) (inList n lits (now (ends .entry)) (sessionOf n (length (now (ends .entry))) lits (now (values .entry)) (now (levels .entry)) (now (reasons .entry)) (now (trail .entry)) (now (opened .entry)) (now (next .entry)) (now (prev .entry)) (now (ts .entry)) (s .state))) (now (out .entry))) ⌝ }
+    ensures { λ r. ⌜ ((lits : List ℕ) → r ≡ total (now (sheet .entry)) (s .place) (inList n lits (now (ends .entry)) (sessionOf n (length (now (ends .entry))) lits (now (values .entry)) (now (levels .entry)) (now (reasons .entry)) (now (trail .entry)) (now (opened .entry)) (now (next .entry)) (now (prev .entry)) (now (ts .entry)) (s .state)))) ⌝ }
+{
+    let mut u = s;
+    while u.place.left > 0 {
+        u = next_line(
+            sheet,
+            out,
+            n,
+            ends,
+            values,
+            levels,
+            reasons,
+            trail,
+            opened,
+            next,
+            prev,
+            ts,
+            vars,
+            stamps,
+            order,
+            u,
+        );
+    }
+    u.place.at
 }
