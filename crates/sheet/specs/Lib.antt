@@ -1,10 +1,12 @@
--- The run of a call sheet: its definition, term 3 of its answers, how answers are written, bounds on them, and the clause lines as code runs them.
+-- The run of a call sheet: its definition, term 3 of its answers, how answers are written, bounds on them, and the clause lines and session lines as code runs them.
 pub mod Sheet
 pub mod Claim
 pub mod Writing
 pub mod Bounds
 pub mod Replies
+pub mod Called
 pub mod Running
 pub mod Steps
 pub mod ClauseLines
 pub mod Section
+pub mod SessionLines

@@ -1,0 +1,88 @@
+-- `list_run::list_lines` meets its contract: each line that is answered leaves the run's end where it was.
+use Prim.Native.Nat.{ℕ}
+use mathlib.Core.Path.{_≡_, refl, _∙_}
+use mathlib.Core.List.{List, []}
+use native.Mathlib.Omega.{arith}
+use lib.ListN.{length}
+use Rattle.list_mode.specs.Memory.{sessionOf}
+use Rattle.sheet.specs.SessionLines.{along-none, along-more, along-over}
+use Rattle.list_run.specs.Lines.{ListAlong}
+use Rattle.list_run.proofs.list_lines.Statement.{statement}
+use Rattle.list_run.proofs.list_lines.Tie as tie
+
+abbrev Inv-loop : tie.InvT-loop
+Inv-loop sheet out₀ n ends values₀ levels₀ reasons₀ trail₀ opened₀ next₀ prev₀ ts₀ vars₀ stamps₀ order₀ u₀ out values levels reasons trail opened next prev ts vars stamps order u =
+    ((lits : List ℕ) → ListAlong n lits ends sheet (u₀ .place) (sessionOf n (length ends) lits values₀ levels₀ reasons₀ trail₀ opened₀ next₀ prev₀ ts₀ (u₀ .state)) out₀ (u .place) (sessionOf n (length ends) lits values levels reasons trail opened next prev ts (u .state)) out)
+    × (length values ≡ length values₀)
+    × (length levels ≡ length levels₀)
+    × (length reasons ≡ length reasons₀)
+    × (length trail ≡ length trail₀)
+    × (length opened ≡ length opened₀)
+    × (length next ≡ length next₀)
+    × (length prev ≡ length prev₀)
+    × (length ts ≡ length ts₀)
+    × (length vars ≡ length vars₀)
+    × (length stamps ≡ length stamps₀)
+    × (length order ≡ length order₀)
+
+abbrev μ-loop : tie.MeasureT-loop
+μ-loop sheet out₀ n ends values₀ levels₀ reasons₀ trail₀ opened₀ next₀ prev₀ ts₀ vars₀ stamps₀ order₀ u₀ out values levels reasons trail opened next prev ts vars stamps order u = u .place .left
+
+loop-holds : tie.Need-loop-holds Inv-loop μ-loop
+loop-holds c = (λ lits. along-none (c .before .before .before .before .before .before .before .before .before .before .before .before .before .before .pre .0 .0) (c .before .before .before .before .before .before .before .before .before .before .before .before .before .before .pre .1 .0), refl, refl, refl, refl, refl, refl, refl, refl, refl, refl, refl)
+
+next-line-requires : tie.Need-next-line-requires Inv-loop μ-loop
+next-line-requires c κs =
+    let inv = c .before .before .before .before .before .before .before .before .before .before .before .before .before .before .loop .inv in
+    let pre = c .before .before .before .before .before .before .before .before .before .before .before .before .before .before .before .before .before .before .before .before .before .before .before .before .before .before .before .before .before .pre in
+    ((inv .0 [] .room, c .before .before .before .before .before .before .before .before .before .before .before .before .if1 .taken, pre .0 .1), (inv .0 [] .good, (inv .9 ∙ pre .1 .1 .0, inv .10 ∙ pre .1 .1 .1, inv .11 ∙ pre .1 .1 .2)))
+
+loop-less : tie.Need-loop-less Inv-loop μ-loop
+loop-less c = c .before .before .before .before .before .before .before .before .before .before .before .before .before .before .before .before .before .before .before .before .before .before .before .before .next-line .ensures .0
+
+loop-again : tie.Need-loop-again Inv-loop μ-loop
+loop-again c =
+    let inv = c .before .before .before .before .before .before .before .before .before .before .before .before .before .before .before .before .before .before .before .before .before .before .before .before .before .before .before .before .before .before .before .before .before .before .before .before .before .before .before .loop .inv in
+    let l = c .before .before .before .before .before .before .before .before .before .before .before .before .before .before .before .before .before .before .before .before .before .before .before .before .next-line in (
+      λ lits. along-more (inv .0 lits) (l .ensures .1 lits),
+      l .kept .1 .1 .1 .1 .0 ∙ inv .1,
+      l .kept .1 .1 .1 .1 .1 .0 ∙ inv .2,
+      l .kept .1 .1 .1 .1 .1 .1 .0 ∙ inv .3,
+      l .kept .1 .1 .1 .1 .1 .1 .1 .0 ∙ inv .4,
+      l .kept .1 .1 .1 .1 .1 .1 .1 .1 .0 ∙ inv .5,
+      l .kept .1 .1 .1 .1 .1 .1 .1 .1 .1 .0 ∙ inv .6,
+      l .kept .1 .1 .1 .1 .1 .1 .1 .1 .1 .1 .0 ∙ inv .7,
+      l .kept .1 .1 .1 .1 .1 .1 .1 .1 .1 .1 .1 .0 ∙ inv .8,
+      l .kept .1 .1 .1 .1 .1 .1 .1 .1 .1 .1 .1 .1 .0 ∙ inv .9,
+      l .kept .1 .1 .1 .1 .1 .1 .1 .1 .1 .1 .1 .1 .1 .0 ∙ inv .10,
+      l .kept .1 .1 .1 .1 .1 .1 .1 .1 .1 .1 .1 .1 .1 .1 .0 ∙ inv .11,
+    )
+
+returns : tie.Need-returns Inv-loop μ-loop
+returns c =
+    let inv = c .before .before .loop .inv in
+    (λ lits. along-over (inv .0 lits) (omega (arith, c .if1 .left)) .0, λ lits. along-over (inv .0 lits) (omega (arith, c .if1 .left)) .1)
+
+pub list-lines-spec : {M : Type 1} → statement M
+list-lines-spec =
+    tie.close
+    (tie.spec
+    Inv-loop
+    μ-loop
+    loop-holds
+    next-line-requires
+    loop-less
+    loop-again
+    (λ c. c .before .before .loop .inv .0 [] .out-same)
+    (λ c. c .before .before .loop .inv .1)
+    (λ c. c .before .before .loop .inv .2)
+    (λ c. c .before .before .loop .inv .3)
+    (λ c. c .before .before .loop .inv .4)
+    (λ c. c .before .before .loop .inv .5)
+    (λ c. c .before .before .loop .inv .6)
+    (λ c. c .before .before .loop .inv .7)
+    (λ c. c .before .before .loop .inv .8)
+    (λ c. c .before .before .loop .inv .9)
+    (λ c. c .before .before .loop .inv .10)
+    (λ c. c .before .before .loop .inv .11)
+    returns)

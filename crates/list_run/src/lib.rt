@@ -1,0 +1,186 @@
+// The lines of a session in list mode: each is a call, answered in turn.
+ghost use mathlib.Core.Path.{_≡_};
+ghost use mathlib.Core.List.{List};
+ghost use Prim.Native.Nat.{ℕ, _<_, _≤_};
+ghost use lib.ListN.{length};
+ghost use Rattle.lit.specs.Numbers as number;
+ghost use Rattle.trail.specs.Memory.{trailOf};
+ghost use Rattle.vmtf.specs.Vmtf.{vmtfOf};
+ghost use Rattle.choosers.specs.List.{listOps};
+ghost use Rattle.calls.specs.Entry.{Answered};
+ghost use Rattle.list_mode.specs.Memory.{sessionOf};
+ghost use Rattle.list_mode.specs.Good.{GoodSession};
+ghost use Rattle.forms.specs.Forms.{callIn};
+ghost use Rattle.sheet.specs.Sheet.{called, inList};
+ghost use Rattle.sheet.specs.Running.{Room, finished, total};
+ghost use Rattle.list_run.specs.Lines.{ListAlong};
+use forms::Read;
+use list_mode::ListAnswer;
+use list_mode::ListState;
+use lit::BAD_LINE;
+use sheet::Place;
+use text::NEWLINE;
+
+// Where a run stands in a session: its place, and the small states.
+pub struct ListPlace {
+    pub place: Place,
+    pub state: ListState,
+}
+
+// A line on a good session: the call that it is, or refusal 3. The variables, stamps and order are scratch.
+fn line_call(
+    line: &[u8],
+    n: u32,
+    m: u32,
+    values: &mut [u8],
+    levels: &mut [u32],
+    reasons: &mut [u32],
+    trail: &mut [u32],
+    opened: &mut [u32],
+    next: &mut [u32],
+    prev: &mut [u32],
+    ts: &mut [u64],
+    s: ListState,
+    vars: &mut [u32],
+    stamps: &mut [u64],
+    order: &mut [u32],
+) -> ListAnswer
+    requires { ⌜ GoodSession n m (trailOf (now values) (now levels) (now reasons) (now trail) (now opened) (s .trail)) (vmtfOf (now next) (now prev) (now ts) (s .vmtf)) ⌝ }
+    requires { ⌜ (length (now vars) ≡ number.maxGroup) × (length (now stamps) ≡ number.maxGroup) × (length (now order) ≡ number.maxGroup) ⌝ }
+    ensures { λ r. ⌜ ((lits : List ℕ) → Answered (called n m (listOps n lits)
+        (sessionOf n m lits (now (values .entry)) (now (levels .entry)) (now (reasons .entry)) (now (trail .entry)) (now (opened .entry)) (now (next .entry)) (now (prev .entry)) (now (ts .entry)) s)
+        (callIn (now (line .entry))))
+        (sessionOf n m lits (now (values .entry)) (now (levels .entry)) (now (reasons .entry)) (now (trail .entry)) (now (opened .entry)) (now (next .entry)) (now (prev .entry)) (now (ts .entry)) s)
+        (r .status)
+        (r .reply)
+        (sessionOf n m lits (now (values .exit)) (now (levels .exit)) (now (reasons .exit)) (now (trail .exit)) (now (opened .exit)) (now (next .exit)) (now (prev .exit)) (now (ts .exit)) (r .state))) ⌝ }
+{
+    match forms::read_call(line, vars) {
+        Read::Bad => list_mode::refuse(BAD_LINE, s),
+        Read::Is(call, k) => {
+            list_mode::step(
+                n,
+                m,
+                values,
+                levels,
+                reasons,
+                trail,
+                opened,
+                next,
+                prev,
+                ts,
+                s,
+                call,
+                &vars[..k],
+                &mut stamps[..k],
+                &mut order[..k],
+            )
+        }
+    }
+}
+
+// Does the next line and answers it.
+fn next_line(
+    sheet: &[u8],
+    out: &mut [u8],
+    n: u32,
+    ends: &[u32],
+    values: &mut [u8],
+    levels: &mut [u32],
+    reasons: &mut [u32],
+    trail: &mut [u32],
+    opened: &mut [u32],
+    next: &mut [u32],
+    prev: &mut [u32],
+    ts: &mut [u64],
+    vars: &mut [u32],
+    stamps: &mut [u64],
+    order: &mut [u32],
+    s: ListPlace,
+) -> ListPlace
+    requires { ⌜ Room (now sheet) (s .place) (now out) × (0 < s .place .left) × (length (now ends) ≤ number.maxClauses) ⌝ }
+    requires { ⌜ GoodSession n (length (now ends)) (trailOf (now values) (now levels) (now reasons) (now trail) (now opened) (s .state .trail)) (vmtfOf (now next) (now prev) (now ts) (s .state .vmtf)) ⌝ }
+    requires { ⌜ (length (now vars) ≡ number.maxGroup) × (length (now stamps) ≡ number.maxGroup) × (length (now order) ≡ number.maxGroup) ⌝ }
+    ensures { λ r. ⌜ r .place .left < s .place .left ⌝ }
+    ensures { λ r. ⌜ ((lits : List ℕ) → ListAlong n lits (now (ends .entry)) (now (sheet .entry))
+        (s .place)
+        (sessionOf n (length (now (ends .entry))) lits (now (values .entry)) (now (levels .entry)) (now (reasons .entry)) (now (trail .entry)) (now (opened .entry)) (now (next .entry)) (now (prev .entry)) (now (ts .entry)) (s .state))
+        (now (out .entry))
+        (r .place)
+        (sessionOf n (length (now (ends .entry))) lits (now (values .exit)) (now (levels .exit)) (now (reasons .exit)) (now (trail .exit)) (now (opened .exit)) (now (next .exit)) (now (prev .exit)) (now (ts .exit)) (r .state))
+        (now (out .exit))) ⌝ }
+{
+    let p = s.place;
+    let from = p.from;
+    let end = from + text::find(&sheet[from..], NEWLINE);
+    let a = line_call(
+        &sheet[from..end],
+        n,
+        ends.len() as u32,
+        values,
+        levels,
+        reasons,
+        trail,
+        opened,
+        next,
+        prev,
+        ts,
+        s.state,
+        vars,
+        stamps,
+        order,
+    );
+    let at = sheet::answer(out, p.at, p.line, a.status, a.reply);
+    let q = sheet::behind(p, end, at);
+    let t = a.state;
+    ListPlace { place: q, state: t }
+}
+
+// Does the lines that are left and answers them, and gives the place behind the answers.
+pub fn list_lines(
+    sheet: &[u8],
+    out: &mut [u8],
+    n: u32,
+    ends: &[u32],
+    values: &mut [u8],
+    levels: &mut [u32],
+    reasons: &mut [u32],
+    trail: &mut [u32],
+    opened: &mut [u32],
+    next: &mut [u32],
+    prev: &mut [u32],
+    ts: &mut [u64],
+    vars: &mut [u32],
+    stamps: &mut [u64],
+    order: &mut [u32],
+    s: ListPlace,
+) -> usize
+    requires { ⌜ Room (now sheet) (s .place) (now out) × (length (now ends) ≤ number.maxClauses) ⌝ }
+    requires { ⌜ GoodSession n (length (now ends)) (trailOf (now values) (now levels) (now reasons) (now trail) (now opened) (s .state .trail)) (vmtfOf (now next) (now prev) (now ts) (s .state .vmtf)) ⌝ }
+    requires { ⌜ (length (now vars) ≡ number.maxGroup) × (length (now stamps) ≡ number.maxGroup) × (length (now order) ≡ number.maxGroup) ⌝ }
+    ensures { λ r. ⌜ ((lits : List ℕ) → now (out .exit) ≡ finished (now (sheet .entry)) (s .place) (inList n lits (now (ends .entry)) (sessionOf n (length (now (ends .entry))) lits (now (values .entry)) (now (levels .entry)) (now (reasons .entry)) (now (trail .entry)) (now (opened .entry)) (now (next .entry)) (now (prev .entry)) (now (ts .entry)) (s .state))) (now (out .entry))) ⌝ }
+    ensures { λ r. ⌜ ((lits : List ℕ) → r ≡ total (now (sheet .entry)) (s .place) (inList n lits (now (ends .entry)) (sessionOf n (length (now (ends .entry))) lits (now (values .entry)) (now (levels .entry)) (now (reasons .entry)) (now (trail .entry)) (now (opened .entry)) (now (next .entry)) (now (prev .entry)) (now (ts .entry)) (s .state)))) ⌝ }
+{
+    let mut u = s;
+    while u.place.left > 0 {
+        u = next_line(
+            sheet,
+            out,
+            n,
+            ends,
+            values,
+            levels,
+            reasons,
+            trail,
+            opened,
+            next,
+            prev,
+            ts,
+            vars,
+            stamps,
+            order,
+            u,
+        );
+    }
+    u.place.at
+}
