@@ -187,7 +187,7 @@ pub fn check_state(
 {
     let t = s.trail;
     let h = s.vsids;
-    if !trail::check::check_trail(m, values, levels, reasons, trail, opened, t) {
+    if !trail_check::check_trail(m, values, levels, reasons, trail, opened, t) {
         return false;
     }
     vsids::check_heap(values, activity, heap, indices, decision, h)
