@@ -17,7 +17,7 @@ use Rattle.trail.specs.Laws.{fresh-good}
 use Rattle.vsids.specs.Vsids.{Vsids, new}
 use Rattle.vsids.specs.Check.{SameLengths, checkHeap, check-good, good-check}
 use Rattle.vsids.specs.Kept.{new-ok}
-use Rattle.heap_mode.specs.Good.{GoodSession}
+use Rattle.heap_calls.specs.Good.{GoodSession}
 
 -- 'the state breaks a fact stated above for its records'
 unfoldable pub stateOk : ℕ → Trail → Vsids → Bool

@@ -1,7 +1,7 @@
 // Tries refusals 4 to 14 at the entry points, in each mode where they can come, each on a small memory of its own. A line for each: the
 // mode's letter, the refusal that is due, the status and the reply.
 use calls::Call;
-use heap_mode::HeapState;
+use heap_calls::HeapState;
 use list_mode::ListState;
 use lit::NONE;
 
