@@ -7,7 +7,7 @@ use lib.ListN.{length}
 use Rattle.formula.specs.declared.Checked.{Checked}
 use Rattle.formula.specs.Clauses.{clausesOk}
 use Rattle.formula.specs.Checks.{checkFormulaInvariantCall}
-use Rattle.trail.specs.Check.{trailOk}
+use Rattle.trail_check.specs.Check.{trailOk}
 use Rattle.vsids.specs.Check.{checkHeap}
 use Rattle.vmtf.specs.Vmtf.{checkList}
 use Rattle.book.specs.Calls.{Call}

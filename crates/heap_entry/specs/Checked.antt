@@ -16,7 +16,7 @@ use Rattle.trail.specs.Memory.{Sized}
 use Rattle.vsids.specs.Vsids.{Vsids}
 use Rattle.entry.specs.Sizes.{both}
 use Rattle.entry.specs.Entered.{Sound}
-use Rattle.heap_mode.specs.Good.{GoodSession}
+use Rattle.heap_calls.specs.Good.{GoodSession}
 use Rattle.heap_mode.specs.Check.{stateOk, checked-good, good-checked}
 use Rattle.heap_entry.specs.Entry.{heapLengths, heapMode}
 use Rattle.heap_entry.specs.Kept.{IsGood, fresh-good-session, kept}

@@ -11,7 +11,7 @@ use Rattle.book.specs.Session.{Result, Session}
 use Rattle.entry.specs.Asked.{Asked}
 use Rattle.entry.specs.Mode.{Mode}
 use Rattle.entry.specs.Mode as mode
-use Rattle.heap_mode.specs.declared.HeapState.{HeapState}
+use Rattle.heap_calls.specs.declared.HeapState.{HeapState}
 use Rattle.heap_mode.specs.Check.{stateOk}
 
 -- refusal 5, of the heap's slices

@@ -13,7 +13,7 @@ use Rattle.book.specs.Calls.{Call}
 use Rattle.book.specs.Chooser.{Chooser}
 use Rattle.book.specs.Session.{Session, leaves, fresh, call}
 use Rattle.entry.specs.Kept as either
-use Rattle.heap_mode.specs.Good.{GoodSession}
+use Rattle.heap_calls.specs.Good.{GoodSession}
 use Rattle.heap_mode.specs.Check.{fresh-session}
 
 -- the heap chooser over the stated number of clauses

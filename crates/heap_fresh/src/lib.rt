@@ -1,14 +1,14 @@
 // The entry point that makes a session in heap mode. It checks the memory that was lent, and asks nothing of its callers.
 ghost use mathlib.Core.Path.{_≡_};
 ghost use Rattle.calls.specs.Entry.{Answered};
-ghost use Rattle.heap_mode.specs.Memory.{sessionOf};
+ghost use Rattle.heap_calls.specs.Memory.{sessionOf};
 ghost use Rattle.heap_entry.specs.Entry.{made, blank};
 use activity::Step;
+use heap_calls::HeapAnswer;
+use heap_calls::HeapState;
+use heap_calls::accept;
+use heap_calls::refuse;
 use heap_entry::lengths_ok;
-use heap_mode::HeapAnswer;
-use heap_mode::HeapState;
-use heap_mode::accept;
-use heap_mode::refuse;
 use lit::NONE;
 use trail::TrailState;
 use vsids::VsidsState;

@@ -11,13 +11,13 @@ use Rattle.lit.specs.Numbers.{maxVars}
 use Rattle.formula.specs.Good.{GoodClauses}
 use Rattle.trail.specs.Trail.{Trail, freshTrail}
 use Rattle.trail.specs.Memory.{Sized}
-use Rattle.trail.specs.Check.{trailOk}
-use Rattle.trail.specs.Checked.{trail-right}
+use Rattle.trail_check.specs.Check.{trailOk}
+use Rattle.trail_check.specs.Checked.{trail-right}
 use Rattle.trail.specs.Laws.{fresh-good}
 use Rattle.vsids.specs.Vsids.{Vsids, new}
 use Rattle.vsids.specs.Check.{SameLengths, checkHeap, check-good, good-check}
 use Rattle.vsids.specs.Kept.{new-ok}
-use Rattle.heap_mode.specs.Good.{GoodSession}
+use Rattle.heap_calls.specs.Good.{GoodSession}
 
 -- 'the state breaks a fact stated above for its records'
 unfoldable pub stateOk : ℕ → Trail → Vsids → Bool

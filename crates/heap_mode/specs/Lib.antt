@@ -1,4 +1,2 @@
--- A session in heap mode: its memory as the book's session, and when it is good.
-pub mod Memory
-pub mod Good
+-- The check of a session's state in heap mode.
 pub mod Check

@@ -1,58 +1,21 @@
 // A session in heap mode: the trail and the heap of VSIDS over lent slices, and the eleven calls on it.
-mod order;
-mod search;
-
 ghost use mathlib.Core.Path.{_≡_};
 ghost use lib.ListN.{length};
-ghost use Rattle.lit.specs.Numbers as number;
 ghost use Rattle.trail.specs.Memory.{trailOf, Lengths};
 ghost use Rattle.vsids.specs.Vsids.{vsidsOf};
 ghost use Rattle.vsids.specs.Check.{SameLengths};
 ghost use Rattle.calls.specs.Calls.{callOf};
-ghost use Rattle.heap_mode.specs.Memory.{sessionOf, answer, Answers};
+ghost use Rattle.heap_calls.specs.Memory.{sessionOf, answer, Answers};
+ghost use Rattle.heap_calls.specs.Good.{GoodSession};
 ghost use Rattle.heap_mode.specs.Check.{stateOk};
-ghost use Rattle.heap_mode.specs.Good.{GoodSession};
 use calls::Call;
 use calls::on_trail;
 use calls::on_trail::TrailAnswer;
-use lit::NONE;
-use trail::TrailState;
+use heap_calls::HeapAnswer;
+use heap_calls::HeapState;
+use heap_calls::order;
+use heap_calls::search;
 use vsids::VsidsState;
-
-// The small states of the trail and of the heap.
-pub struct HeapState {
-    pub trail: TrailState,
-    pub vsids: VsidsState,
-}
-
-// What a call answers: 0 or the refusal, the reply or NONE, and the small states to go on with.
-pub struct HeapAnswer {
-    pub status: u32,
-    pub reply: u32,
-    pub state: HeapState,
-}
-
-// Status 0 with a reply.
-pub fn accept(reply: u32, s: HeapState) -> HeapAnswer
-    ensures { λ r. ⌜ r ≡ answer 0 reply s ⌝ }
-{
-    HeapAnswer {
-        status: 0,
-        reply: reply,
-        state: s,
-    }
-}
-
-// A refusal, with reply NONE.
-pub fn refuse(status: u32, s: HeapState) -> HeapAnswer
-    ensures { λ r. ⌜ r ≡ answer status number.NONE s ⌝ }
-{
-    HeapAnswer {
-        status: status,
-        reply: NONE,
-        state: s,
-    }
-}
 
 // What a call on the trail alone answers; the heap stays.
 fn with_heap(a: TrailAnswer, h: VsidsState) -> HeapAnswer
@@ -187,7 +150,7 @@ pub fn check_state(
 {
     let t = s.trail;
     let h = s.vsids;
-    if !trail::check::check_trail(m, values, levels, reasons, trail, opened, t) {
+    if !trail_check::check_trail(m, values, levels, reasons, trail, opened, t) {
         return false;
     }
     vsids::check_heap(values, activity, heap, indices, decision, h)

@@ -12,8 +12,8 @@ use Rattle.laws.specs.Tests.{and-left, and-right, and-both}
 use Rattle.lit.specs.Numbers.{NONE, maxVars}
 use Rattle.trail.specs.Trail.{Trail}
 use Rattle.trail.specs.Memory.{Sized}
-use Rattle.trail.specs.Check.{trailOk}
-use Rattle.trail.specs.Checked.{trail-right}
+use Rattle.trail_check.specs.Check.{trailOk}
+use Rattle.trail_check.specs.Checked.{trail-right}
 use Rattle.vmtf.specs.Vmtf.{Vmtf, checkList}
 use Rattle.vmtf.specs.Check.{check-good}
 use Rattle.choosers.specs.List.{listOps, list-chooser, list-ok, ok-list}

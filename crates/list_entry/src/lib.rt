@@ -79,7 +79,7 @@ fn check_state(
 {
     let t = s.trail;
     let l = s.vmtf;
-    if !trail::check::check_trail(m, values, levels, reasons, trail, opened, t) {
+    if !trail_check::check_trail(m, values, levels, reasons, trail, opened, t) {
         return false;
     }
     vmtf::check_list(next, prev, ts, l)

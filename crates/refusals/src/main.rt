@@ -2,7 +2,7 @@
 // letter (h and l for calls in heap and list mode, n and m for creation), the refusal that is due, the status and the reply.
 use activity::Step;
 use calls::Call;
-use heap_mode::HeapState;
+use heap_calls::HeapState;
 use list_mode::ListState;
 use lit::NONE;
 use trail::TrailState;

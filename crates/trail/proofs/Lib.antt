@@ -1,4 +1,2 @@
 -- Lemmas that the proofs of the trail's functions cite.
 pub mod Going
-pub mod Marks
-pub mod Climb

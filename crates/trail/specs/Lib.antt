@@ -2,8 +2,6 @@
 pub mod Trail
 pub mod Memory
 pub mod Good
-pub mod Check
-pub mod Checked
 pub mod Laws
 pub mod Undoing
 pub mod Back

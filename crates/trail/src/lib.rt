@@ -12,8 +12,6 @@ ghost use Rattle.trail.specs.Memory.{trailOf, Lengths, Room, RoomFor, Le
 use lit::NONE;
 use lit::UNASSIGNED;
 
-pub mod check;
-
 // How many places of the trail and of the opened levels are in use, and `curr_i`.
 pub struct TrailState {
     pub len: u32,

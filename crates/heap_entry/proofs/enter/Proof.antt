@@ -5,7 +5,7 @@ use Rattle.entry.specs.Asked.{asks}
 use Rattle.entry.specs.Checks.{refused, accepted}
 use Rattle.entry.specs.Mode.{entered}
 use Rattle.entry.specs.Entered.{admitted}
-use Rattle.heap_mode.specs.Memory.{sessionOf}
+use Rattle.heap_calls.specs.Memory.{sessionOf}
 use Rattle.heap_entry.specs.Entry.{heapMode}
 use Rattle.heap_entry.specs.Checked.{heap-sound}
 use Rattle.heap_entry.proofs.enter.Statement.{statement}

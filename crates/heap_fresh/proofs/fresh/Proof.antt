@@ -6,7 +6,7 @@ use Rattle.vsids.specs.Vsids.{vsidsOf}
 use Rattle.vsids.specs.Vsids as vsids
 use Rattle.choosers.specs.Heap.{heapOps}
 use Rattle.entry.specs.Sizes.{sizes-right}
-use Rattle.heap_mode.specs.Memory.{sessionOf}
+use Rattle.heap_calls.specs.Memory.{sessionOf}
 use Rattle.heap_entry.specs.Entry.{blank}
 use Rattle.heap_entry.specs.Checked.{heap-sized}
 use Rattle.entry.specs.Checks.{size-refused, size-passed, size-accepted, opened}

@@ -1,7 +1,7 @@
 -- `heap_mode::step` meets its contract: each arm by the contract of its call.
 use mathlib.Core.Path.{refl}
 use Rattle.calls.specs.OnTrail.{enqueue-with}
-use Rattle.heap_mode.specs.Good.{steady}
+use Rattle.heap_calls.specs.Good.{steady}
 use borrow.Author.Needs.{needs}
 use Rattle.heap_mode.proofs.step.Statement.{statement}
 use Rattle.heap_mode.proofs.step.Tie as tie

@@ -1,0 +1,3 @@
+-- Lemmas that the proofs of the check's functions cite.
+pub mod Marks
+pub mod Climb

@@ -1,0 +1,256 @@
+// The trail's check, for memory that was lent: nothing is known of it but the slices' lengths.
+ghost use mathlib.Core.Path.{_≡_};
+ghost use mathlib.Core.Bool.{true, false, _&&_};
+ghost use Prim.Native.Nat.{ℕ, _≤_, _<_};
+ghost use lib.ListN.{length, getD};
+ghost use Rattle.lit.specs.Numbers as number;
+ghost use Rattle.lit.specs.Lits as lits;
+ghost use Rattle.trail_check.specs.Check as spec;
+ghost use Rattle.trail_check.specs.Check.{Marked};
+ghost use Rattle.trail.specs.Memory.{trailOf, Lengths};
+use lit::NONE;
+use lit::UNASSIGNED;
+use trail::TrailState;
+
+// Whether the counts lie within n places, and `curr_i` on the trail.
+fn counts_ok(n: usize, s: TrailState) -> bool
+    ensures { λ r. ⌜ r ≡ spec.countsOk n (s .len) (s .level) (s .«curr_i») ⌝ }
+{
+    s.len as usize <= n && (s.level as usize <= n && s.curr_i <= s.len)
+}
+
+// Whether every value is 0, 1 or 2.
+fn values_ok(values: &[u8]) -> bool
+    ensures { λ r. ⌜ r ≡ spec.valuesOk (now (values .entry)) ⌝ }
+{
+    let mut v = 0;
+    while v < values.len() {
+        if values[v] > UNASSIGNED {
+            return false;
+        }
+        v += 1;
+    }
+    true
+}
+
+// Whether the variable's reason is NONE, or a clause number and the variable assigned.
+fn reason_ok(m: u32, values: &[u8], reasons: &[u32], v: usize) -> bool
+    requires { ⌜ (v < length (now values)) × (v < length (now reasons)) ⌝ }
+    ensures { λ r. ⌜ r ≡ spec.reasonOk m (now (values .entry)) (now (reasons .entry)) v ⌝ }
+{
+    reasons[v] == NONE || (reasons[v] < m && values[v] < UNASSIGNED)
+}
+
+// Whether every variable's reason is so.
+fn reasons_ok(m: u32, values: &[u8], reasons: &[u32]) -> bool
+    requires { ⌜ length (now reasons) ≡ length (now values) ⌝ }
+    ensures { λ r. ⌜ r ≡ spec.reasonsOk m (now (values .entry)) (now (reasons .entry)) ⌝ }
+{
+    let mut v = 0;
+    while v < values.len() {
+        if !reason_ok(m, values, reasons, v) {
+            return false;
+        }
+        v += 1;
+    }
+    true
+}
+
+// Whether every place from `used` on holds NONE.
+fn unused_ok(a: &[u32], used: u32) -> bool
+    requires { ⌜ used ≤ length (now a) ⌝ }
+    ensures { λ r. ⌜ r ≡ spec.unusedOk (now (a .entry)) used ⌝ }
+{
+    let mut i = used as usize;
+    while i < a.len() {
+        if a[i] != NONE {
+            return false;
+        }
+        i += 1;
+    }
+    true
+}
+
+// Whether the opened level lies below the trail length and above the one before it.
+fn level_ok(opened: &[u32], len: u32, k: usize) -> bool
+    requires { ⌜ k < length (now opened) ⌝ }
+    ensures { λ r. ⌜ r ≡ spec.levelOk (now (opened .entry)) len k ⌝ }
+{
+    opened[k] < len && (k == 0 || opened[k - 1] < opened[k])
+}
+
+// Whether every opened level in use does.
+fn opened_ok(opened: &[u32], level: u32, len: u32) -> bool
+    requires { ⌜ level ≤ length (now opened) ⌝ }
+    ensures { λ r. ⌜ r ≡ spec.openedOk (now (opened .entry)) level len ⌝ }
+{
+    let mut k = 0;
+    while k < level {
+        if !level_ok(opened, len, k as usize) {
+            return false;
+        }
+        k += 1;
+    }
+    true
+}
+
+// Whether the literal is of a variable, holds, and its variable is not marked.
+fn literal_ok(values: &[u8], marks: &[bool], code: u32) -> bool
+    requires { ⌜ length (now values) ≤ length (now marks) ⌝ }
+    ensures { λ r. ⌜ r ≡ spec.literalOk (now (values .entry)) code (getD (now (marks .entry)) (lits.index code) false) ⌝ }
+{
+    let v = lit::index(code) as usize;
+    v < values.len() && (lit::lit_sat(code, values) && !marks[v])
+}
+
+// Whether every literal of the trail is of a variable, holds, and is the first of its variable. Marks the variables passed.
+fn places_ok(values: &[u8], trail: &[u32], len: u32, marks: &mut [bool]) -> bool
+    requires { ⌜ len ≤ length (now trail) ⌝ }
+    requires { ⌜ Marked (now trail) 0 (length (now values)) (now marks) ⌝ }
+    ensures { λ r. ⌜ r ≡ spec.placesOk (now (values .entry)) (now (trail .entry)) len ⌝ }
+    ensures { λ r. ⌜ (r ≡ true → Marked (now (trail .entry)) len (length (now (values .entry))) (now (marks .exit))) ⌝ }
+{
+    let mut i = 0;
+    while i < len {
+        let code = trail[i as usize];
+        if !literal_ok(values, marks, code) {
+            return false;
+        }
+        marks[lit::index(code) as usize] = true;
+        i += 1;
+    }
+    true
+}
+
+// Whether the variable is unassigned or marked.
+fn covered(values: &[u8], marks: &[bool], v: usize) -> bool
+    requires { ⌜ (v < length (now values)) × (v < length (now marks)) ⌝ }
+    ensures { λ r. ⌜ r ≡ spec.coveredAt (now (values .entry)) (now (marks .entry)) v ⌝ }
+{
+    values[v] >= UNASSIGNED || marks[v]
+}
+
+// Whether every variable is so: every assigned one is marked.
+fn covered_ok(values: &[u8], marks: &[bool]) -> bool
+    requires { ⌜ length (now values) ≤ length (now marks) ⌝ }
+    ensures { λ r. ⌜ r ≡ spec.coveredOk (now (values .entry)) (now (marks .entry)) ⌝ }
+{
+    let mut v = 0;
+    while v < values.len() {
+        if !covered(values, marks, v) {
+            return false;
+        }
+        v += 1;
+    }
+    true
+}
+
+// Whether the trail holds literals of variables that hold, each assigned variable once.
+fn check_places(values: &[u8], trail: &[u32], len: u32) -> bool
+    requires { ⌜ (length (now values) ≤ number.maxVars) × (len ≤ length (now trail)) ⌝ }
+    ensures { λ r. ⌜ r ≡ (spec.placesOk (now (values .entry)) (now (trail .entry)) len && spec.heldOk (now (values .entry)) (now (trail .entry)) len) ⌝ }
+{
+    let mut marks = [false; lit::MAX_VARS as usize];
+    if !places_ok(values, trail, len, &mut marks) {
+        return false;
+    }
+    covered_ok(values, &marks)
+}
+
+// The level of place i, where l is that of the place before: one more if a level was opened at i.
+fn level_at(opened: &[u32], level: u32, l: u32, i: u32) -> u32
+    requires { ⌜ (level ≤ length (now opened)) × (l ≤ level) ⌝ }
+    ensures { λ r. ⌜ r ≡ spec.climb (now (opened .entry)) level l i ⌝ }
+{
+    if l < level {
+        if opened[l as usize] == i {
+            return l + 1;
+        }
+    }
+    l
+}
+
+// Whether every trail variable has the level of its place.
+fn levels_ok(levels: &[u32], trail: &[u32], opened: &[u32], level: u32, len: u32) -> bool
+    requires { ⌜ (len ≤ length (now trail)) × (level ≤ length (now opened)) ⌝ }
+    requires { ⌜ ((i : ℕ) → i < len → lits.index (getD (now trail) i 0) < length (now levels)) ⌝ }
+    requires { ⌜ spec.openedOk (now opened) level len ≡ true ⌝ }
+    ensures { λ r. ⌜ r ≡ spec.levelsOk (now (levels .entry)) (now (trail .entry)) (now (opened .entry)) level len ⌝ }
+{
+    let mut l = 0;
+    let mut i = 0;
+    while i < len {
+        l = level_at(opened, level, l, i);
+        let v = lit::index(trail[i as usize]) as usize;
+        if levels[v] != l {
+            return false;
+        }
+        i += 1;
+    }
+    true
+}
+
+// Whether every variable has a good value and a good reason.
+fn check_variables(m: u32, values: &[u8], reasons: &[u32]) -> bool
+    requires { ⌜ length (now reasons) ≡ length (now values) ⌝ }
+    ensures { λ r. ⌜ r ≡ (spec.valuesOk (now (values .entry)) && spec.reasonsOk m (now (values .entry)) (now (reasons .entry))) ⌝ }
+{
+    if !values_ok(values) {
+        return false;
+    }
+    reasons_ok(m, values, reasons)
+}
+
+// Whether the places of the trail and of the opened levels that are not in use hold NONE.
+fn check_unused(trail: &[u32], len: u32, opened: &[u32], level: u32) -> bool
+    requires { ⌜ (len ≤ length (now trail)) × (level ≤ length (now opened)) ⌝ }
+    ensures { λ r. ⌜ r ≡ (spec.unusedOk (now (trail .entry)) len && spec.unusedOk (now (opened .entry)) level) ⌝ }
+{
+    if !unused_ok(trail, len) {
+        return false;
+    }
+    unused_ok(opened, level)
+}
+
+// Whether the opened levels rise within the trail, and the trail variables' levels follow them.
+fn check_levels(levels: &[u32], trail: &[u32], opened: &[u32], level: u32, len: u32) -> bool
+    requires { ⌜ (len ≤ length (now trail)) × (level ≤ length (now opened)) ⌝ }
+    requires { ⌜ ((i : ℕ) → i < len → lits.index (getD (now trail) i 0) < length (now levels)) ⌝ }
+    ensures { λ r. ⌜ r ≡ (spec.openedOk (now (opened .entry)) level len && spec.levelsOk (now (levels .entry)) (now (trail .entry)) (now (opened .entry)) level len) ⌝ }
+{
+    if !opened_ok(opened, level, len) {
+        return false;
+    }
+    levels_ok(levels, trail, opened, level, len)
+}
+
+// Whether the memory is a good trail over values.len() variables and m clauses.
+pub fn check_trail(
+    m: u32,
+    values: &[u8],
+    levels: &[u32],
+    reasons: &[u32],
+    trail: &[u32],
+    opened: &[u32],
+    s: TrailState,
+) -> bool
+    requires { ⌜ Lengths (length (now values)) (now values) (now levels) (now reasons) (now trail) (now opened) ⌝ }
+    requires { ⌜ length (now values) ≤ number.maxVars ⌝ }
+    ensures { λ r. ⌜ r ≡ spec.trailOk m (trailOf (now (values .entry)) (now (levels .entry)) (now (reasons .entry)) (now (trail .entry)) (now (opened .entry)) s) ⌝ }
+{
+    let len = s.len;
+    let level = s.level;
+    if !counts_ok(values.len(), s) {
+        return false;
+    }
+    if !check_variables(m, values, reasons) {
+        return false;
+    }
+    if !check_unused(trail, len, opened, level) {
+        return false;
+    }
+    if !check_places(values, trail, len) {
+        return false;
+    }
+    check_levels(levels, trail, opened, level, len)
+}
