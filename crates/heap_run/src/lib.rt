@@ -6,13 +6,13 @@ ghost use Rattle.trail.specs.Memory.{trailOf};
 ghost use Rattle.vsids.specs.Vsids.{vsidsOf};
 ghost use Rattle.choosers.specs.Heap.{heapOps};
 ghost use Rattle.calls.specs.Entry.{Answered};
-ghost use Rattle.heap_mode.specs.Memory.{sessionOf};
-ghost use Rattle.heap_mode.specs.Good.{GoodSession};
+ghost use Rattle.heap_calls.specs.Memory.{sessionOf};
+ghost use Rattle.heap_calls.specs.Good.{GoodSession};
 ghost use Rattle.forms.specs.Forms.{callIn};
 ghost use Rattle.sheet.specs.Sheet.{called};
 use forms::Read;
-use heap_mode::HeapAnswer;
-use heap_mode::HeapState;
+use heap_calls::HeapAnswer;
+use heap_calls::HeapState;
 use lit::BAD_LINE;
 
 // A line on a good session: the call that it is, or refusal 3. The variables are scratch.
@@ -45,7 +45,7 @@ fn line_call(
         (sessionOf n m (now (lits .entry)) (now (ends .entry)) (now (values .exit)) (now (levels .exit)) (now (reasons .exit)) (now (trail .exit)) (now (opened .exit)) (now (activity .exit)) (now (heap .exit)) (now (indices .exit)) (now (decision .exit)) (r .state)) ⌝ }
 {
     match forms::read_call(line, vars) {
-        Read::Bad => heap_mode::refuse(BAD_LINE, s),
+        Read::Bad => heap_calls::refuse(BAD_LINE, s),
         Read::Is(call, k) => {
             heap_mode::step(
                 n,
