@@ -61,7 +61,7 @@ pub fn lengths_ok(
 }
 
 // Whether the trail and the list are good.
-fn check_state(
+pub fn check_state(
     m: u32,
     values: &[u8],
     levels: &[u32],

@@ -4,15 +4,19 @@ ghost use mathlib.Core.List.{List};
 ghost use Prim.Native.Nat.{ℕ, _<_, _≤_};
 ghost use lib.ListN.{length};
 ghost use Rattle.lit.specs.Numbers as number;
-ghost use Rattle.trail.specs.Memory.{trailOf};
-ghost use Rattle.vmtf.specs.Vmtf.{vmtfOf};
+ghost use Rattle.formula.specs.Good.{GoodClauses};
+ghost use Rattle.trail.specs.Trail.{freshTrail};
+ghost use Rattle.trail.specs.Memory.{Lengths, trailOf};
+ghost use Rattle.vmtf.specs.Vmtf.{Literals, Fresh, vmtfOf};
+ghost use Rattle.vmtf.specs.Vmtf as vmtf-spec;
 ghost use Rattle.choosers.specs.List.{listOps};
 ghost use Rattle.calls.specs.Entry.{Answered};
 ghost use Rattle.list_mode.specs.Memory.{sessionOf};
 ghost use Rattle.list_mode.specs.Good.{GoodSession};
-ghost use Rattle.forms.specs.Forms.{callIn};
+ghost use Rattle.forms.specs.Forms.{callIn, vmtf};
 ghost use Rattle.sheet.specs.Sheet.{called, inList};
-ghost use Rattle.sheet.specs.Running.{Room, finished, total};
+ghost use Rattle.sheet.specs.Sheet as spec;
+ghost use Rattle.sheet.specs.Running.{Room, Ended};
 ghost use Rattle.list_run.specs.Lines.{ListAlong};
 use forms::Read;
 use list_mode::ListAnswer;
@@ -158,8 +162,11 @@ pub fn list_lines(
     requires { ⌜ Room (now sheet) (s .place) (now out) × (length (now ends) ≤ number.maxClauses) ⌝ }
     requires { ⌜ GoodSession n (length (now ends)) (trailOf (now values) (now levels) (now reasons) (now trail) (now opened) (s .state .trail)) (vmtfOf (now next) (now prev) (now ts) (s .state .vmtf)) ⌝ }
     requires { ⌜ (length (now vars) ≡ number.maxGroup) × (length (now stamps) ≡ number.maxGroup) × (length (now order) ≡ number.maxGroup) ⌝ }
-    ensures { λ r. ⌜ ((lits : List ℕ) → now (out .exit) ≡ finished (now (sheet .entry)) (s .place) (inList n lits (now (ends .entry)) (sessionOf n (length (now (ends .entry))) lits (now (values .entry)) (now (levels .entry)) (now (reasons .entry)) (now (trail .entry)) (now (opened .entry)) (now (next .entry)) (now (prev .entry)) (now (ts .entry)) (s .state))) (now (out .entry))) ⌝ }
-    ensures { λ r. ⌜ ((lits : List ℕ) → r ≡ total (now (sheet .entry)) (s .place) (inList n lits (now (ends .entry)) (sessionOf n (length (now (ends .entry))) lits (now (values .entry)) (now (levels .entry)) (now (reasons .entry)) (now (trail .entry)) (now (opened .entry)) (now (next .entry)) (now (prev .entry)) (now (ts .entry)) (s .state)))) ⌝ }
+    ensures { λ r. ⌜ ((lits : List ℕ) → Ended (now (sheet .entry)) (s .place)
+        (inList n lits (now (ends .entry)) (sessionOf n (length (now (ends .entry))) lits (now (values .entry)) (now (levels .entry)) (now (reasons .entry)) (now (trail .entry)) (now (opened .entry)) (now (next .entry)) (now (prev .entry)) (now (ts .entry)) (s .state)))
+        (now (out .entry))
+        r
+        (now (out .exit))) ⌝ }
 {
     let mut u = s;
     while u.place.left > 0 {
@@ -183,4 +190,28 @@ pub fn list_lines(
         );
     }
     u.place.at
+}
+
+// The states of a fresh session in slices of one length. The counts and the order are scratch.
+fn start(
+    lits: &[u32],
+    values: &mut [u8],
+    levels: &mut [u32],
+    reasons: &mut [u32],
+    trail: &mut [u32],
+    opened: &mut [u32],
+    next: &mut [u32],
+    prev: &mut [u32],
+    ts: &mut [u64],
+    counts: &mut [u32],
+    order: &mut [u32],
+) -> ListState
+    requires { ⌜ Lengths (length (now values)) (now values) (now levels) (now reasons) (now trail) (now opened) ⌝ }
+    requires { ⌜ Literals (length (now next)) (now lits) × Fresh (length (now next)) (now prev) (now ts) (now counts) (now order) ⌝ }
+    ensures { λ r. ⌜ trailOf (now (values .exit)) (now (levels .exit)) (now (reasons .exit)) (now (trail .exit)) (now (opened .exit)) (r .trail) ≡ freshTrail (length (now (values .entry))) ⌝ }
+    ensures { λ r. ⌜ vmtfOf (now (next .exit)) (now (prev .exit)) (now (ts .exit)) (r .vmtf) ≡ vmtf-spec.new (length (now (next .entry))) (now (lits .entry)) ⌝ }
+{
+    let t = trail::new_trail(values, levels, reasons, trail, opened);
+    let l = vmtf::new(lits, next, prev, ts, counts, order);
+    ListState { trail: t, vmtf: l }
 }

@@ -16,7 +16,7 @@ use Rattle.sheet.specs.declared.Place.{Place}
 use Rattle.sheet.specs.Sheet.{Stage, called, staged, meets, turn, replyOf, answerLine, answers}
 use Rattle.sheet.specs.Writing.{Wrote, same-room}
 use Rattle.sheet.specs.Bounds.{Small, answer-short, status-small, answer-text}
-use Rattle.sheet.specs.Running.{linesFrom, lineLength, lineFrom, after, Room, finished, total, SameEnd}
+use Rattle.sheet.specs.Running.{linesFrom, lineLength, lineFrom, after, Room, Ended, SameEnd}
 use Rattle.sheet.specs.Steps.{same-end, lines-over, answer-room, room-behind, end-behind}
 
 -- Lines of a session are answered, from s on up to u: there is room for the rest, u is good, and the run comes to the same end from there.
@@ -34,12 +34,14 @@ module _ {S : Type 0} {Good : S → Type 0} {stage : S → Stage} {sheet : List 
   pub along-more : {p q r : Place} {s u v : S} {out out′ out″ : List ℕ} → Along Good stage sheet p s out q u out′ → Along Good stage sheet q u out′ r v out″ → Along Good stage sheet p s out r v out″
   along-more a b = record { room = b .room; good = b .good; end = same-end (a .end) (b .end); out-same = b .out-same ∙ a .out-same }
 
-  pub along-over : {p q : Place} {s u : S} {out out′ : List ℕ} → Along Good stage sheet p s out q u out′ → q .left ≡ 0
-      → (out′ ≡ finished sheet p (stage s) out) × (q .at ≡ total sheet p (stage s))
+  pub along-over : {p q : Place} {s u : S} {out out′ : List ℕ} → Along Good stage sheet p s out q u out′ → q .left ≡ 0 → Ended sheet p (stage s) out (q .at) out′
   unfolding answers written
-  along-over {p} {q} {s} {u} a over =
-      let e = lines-over (a .room) over in
-      (rw e at (a .end .buffer), omega (arith, a .end .count, ap (λ (ls : List (List ℕ)). length (answers (q .line) (stage u) ls)) e))
+  along-over {q = q} {u = u} a over =
+      let e = lines-over (a .room) over in record {
+        buffer = rw e at (a .end .buffer);
+        count = omega (arith, a .end .count, ap (λ (ls : List (List ℕ)). length (answers (q .line) (stage u) ls)) e);
+        few = omega (arith, a .room .few-bytes, a .room .numbered);
+      }
 
 -- what the result of a line says of a session, it says of the stage
 module _ {S : Type 0} (stage : S → Stage) where

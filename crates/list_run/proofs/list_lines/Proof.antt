@@ -59,9 +59,7 @@ loop-again c =
     )
 
 returns : tie.Need-returns Inv-loop μ-loop
-returns c =
-    let inv = c .before .before .loop .inv in
-    (λ lits. along-over (inv .0 lits) (omega (arith, c .if1 .left)) .0, λ lits. along-over (inv .0 lits) (omega (arith, c .if1 .left)) .1)
+returns c = λ lits. along-over (c .before .before .loop .inv .0 lits) (omega (arith, c .if1 .left))
 
 pub list-lines-spec : {M : Type 1} → statement M
 list-lines-spec =
