@@ -1,2 +1,3 @@
--- The lines of a session in list mode.
+-- The lines of a session in list mode, and the session that they meet.
 pub mod Lines
+pub mod Start

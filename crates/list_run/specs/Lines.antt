@@ -6,7 +6,8 @@ use lib.ListN.{length}
 use Rattle.choosers.specs.List.{listOps}
 use Rattle.book.specs.Session.{Session}
 use Rattle.calls.specs.Entry.{Answered}
-use Rattle.list_mode.specs.Kept.{IsGood, kept}
+use Rattle.list_mode.specs.Kept.{IsGood}
+use Rattle.list_entry.specs.Checked.{kept}
 use Rattle.forms.specs.Forms.{callIn}
 use Rattle.sheet.specs.declared.Place.{Place}
 use Rattle.sheet.specs.Sheet.{called, inList, replyOf, answerLine}

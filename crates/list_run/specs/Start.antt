@@ -1,0 +1,39 @@
+-- A session made fresh at the end of the clause lines, as code holds it: it is good, it passes its check, and it is the stage that the next line meets. Assumes nothing.
+use Prim.Native.Nat.{ℕ, _≤_}
+use mathlib.Core.Path.{_≡_, refl, subst}
+use mathlib.Core.Bool.{true}
+use mathlib.Core.List.{List}
+use native.Mathlib.Omega.{arith}
+use lib.ListN.{length}
+use Rattle.lit.specs.Numbers.{maxVars}
+use Rattle.formula.specs.Good.{GoodClauses}
+use Rattle.trail.specs.Trail.{Trail, freshTrail}
+use Rattle.vmtf.specs.Vmtf.{Vmtf, Literals, new}
+use Rattle.book.specs.Session.{fresh}
+use Rattle.list_mode.specs.Good.{GoodSession}
+use Rattle.list_mode.specs.Kept.{fresh-good-session}
+use Rattle.list_entry.specs.Entry.{stateOk}
+use Rattle.list_entry.specs.Checked.{state-right}
+use Rattle.forms.specs.Forms.{vmtf}
+use Rattle.sheet.specs.declared.Place.{Place}
+use Rattle.sheet.specs.Sheet.{inList, opened}
+use Rattle.sheet.specs.Running.{Ended}
+
+-- the literals of a good clause list are what creation needs
+pub start-literals : {n : ℕ} {lits ends : List ℕ} → GoodClauses n lits ends → Literals n lits
+start-literals g = record { few = omega (arith, g .list .few-literals); vars = g .below }
+
+module _ {n : ℕ} (lits : List ℕ) (small : n ≤ maxVars) {t : Trail} {l : Vmtf} (et : t ≡ freshTrail n) (el : l ≡ new n lits) where
+  pub start-good : (m : ℕ) → GoodSession n m t l
+  unfolding fresh
+  start-good m = rw (et, el) (fresh-good-session n m lits small)
+
+  pub start-checked : (m : ℕ) → stateOk m t l ≡ true
+  start-checked m =
+      let g = start-good m in
+      state-right n m t l small (g .trail .lengths)
+      (record { next-long = g .list .1 .linked .next-long; prev-long = g .list .1 .linked .prev-long; ts-long = g .list .1 .ts-long }) .1 g
+
+  pub start-ended : (ends : List ℕ) {sheet out out′ : List ℕ} {p : Place} {r : ℕ} → Ended sheet p (inList n lits ends (record { trail = t; chooser = l })) out r out′ → Ended sheet p (opened vmtf n lits ends) out r out′
+  unfolding fresh
+  start-ended ends e = rw (et, el) at e
