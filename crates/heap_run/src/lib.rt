@@ -1,19 +1,34 @@
 // The lines of a session in heap mode: each is a call, answered in turn.
 ghost use mathlib.Core.Path.{_≡_};
+ghost use Prim.Native.Nat.{_<_, _≤_};
 ghost use lib.ListN.{length};
 ghost use Rattle.lit.specs.Numbers as number;
-ghost use Rattle.trail.specs.Memory.{trailOf};
+ghost use Rattle.formula.specs.Good.{GoodClauses};
+ghost use Rattle.trail.specs.Trail.{freshTrail};
+ghost use Rattle.trail.specs.Memory.{Lengths, trailOf};
 ghost use Rattle.vsids.specs.Vsids.{vsidsOf};
+ghost use Rattle.vsids.specs.Vsids as vsids-spec;
 ghost use Rattle.choosers.specs.Heap.{heapOps};
 ghost use Rattle.calls.specs.Entry.{Answered};
 ghost use Rattle.heap_calls.specs.Memory.{sessionOf};
 ghost use Rattle.heap_calls.specs.Good.{GoodSession};
-ghost use Rattle.forms.specs.Forms.{callIn};
-ghost use Rattle.sheet.specs.Sheet.{called};
+ghost use Rattle.forms.specs.Forms.{callIn, vsids};
+ghost use Rattle.sheet.specs.Sheet.{called, inHeap};
+ghost use Rattle.sheet.specs.Sheet as spec;
+ghost use Rattle.sheet.specs.Running.{Room, Ended};
+ghost use Rattle.heap_run.specs.Lines.{HeapAlong};
 use forms::Read;
 use heap_calls::HeapAnswer;
 use heap_calls::HeapState;
 use lit::BAD_LINE;
+use sheet::Place;
+use text::NEWLINE;
+
+// Where a run stands in a session: its place, and the small states.
+pub struct HeapPlace {
+    pub place: Place,
+    pub state: HeapState,
+}
 
 // A line on a good session: the call that it is, or refusal 3. The variables are scratch.
 fn line_call(
@@ -67,4 +82,208 @@ fn line_call(
             )
         }
     }
+}
+
+// Does the next line and answers it.
+fn next_line(
+    sheet: &[u8],
+    out: &mut [u8],
+    n: u32,
+    lits: &[u32],
+    ends: &[u32],
+    values: &mut [u8],
+    levels: &mut [u32],
+    reasons: &mut [u32],
+    trail: &mut [u32],
+    opened: &mut [u32],
+    activity: &mut [f64],
+    heap: &mut [u32],
+    indices: &mut [u32],
+    decision: &mut [bool],
+    vars: &mut [u32],
+    s: HeapPlace,
+) -> HeapPlace
+    requires { ⌜ Room (now sheet) (s .place) (now out) × (0 < s .place .left) ⌝ }
+    requires { ⌜ GoodSession n (length (now ends)) (now lits) (now ends) (trailOf (now values) (now levels) (now reasons) (now trail) (now opened) (s .state .trail)) (vsidsOf (now activity) (now heap) (now indices) (now decision) (s .state .vsids)) ⌝ }
+    requires { ⌜ length (now vars) ≡ number.maxGroup ⌝ }
+    ensures { λ r. ⌜ r .place .left < s .place .left ⌝ }
+    ensures { λ r. ⌜ HeapAlong n (now (lits .entry)) (now (ends .entry)) (now (sheet .entry))
+        (s .place)
+        (sessionOf n (length (now (ends .entry))) (now (lits .entry)) (now (ends .entry)) (now (values .entry)) (now (levels .entry)) (now (reasons .entry)) (now (trail .entry)) (now (opened .entry)) (now (activity .entry)) (now (heap .entry)) (now (indices .entry)) (now (decision .entry)) (s .state))
+        (now (out .entry))
+        (r .place)
+        (sessionOf n (length (now (ends .entry))) (now (lits .entry)) (now (ends .entry)) (now (values .exit)) (now (levels .exit)) (now (reasons .exit)) (now (trail .exit)) (now (opened .exit)) (now (activity .exit)) (now (heap .exit)) (now (indices .exit)) (now (decision .exit)) (r .state))
+        (now (out .exit)) ⌝ }
+{
+    let p = s.place;
+    let from = p.from;
+    let end = from + text::find(&sheet[from..], NEWLINE);
+    let a = line_call(
+        &sheet[from..end],
+        n,
+        ends.len() as u32,
+        lits,
+        ends,
+        values,
+        levels,
+        reasons,
+        trail,
+        opened,
+        activity,
+        heap,
+        indices,
+        decision,
+        s.state,
+        vars,
+    );
+    let at = sheet::answer(out, p.at, p.line, a.status, a.reply);
+    let q = sheet::behind(p, end, at);
+    let t = a.state;
+    HeapPlace { place: q, state: t }
+}
+
+// Does the lines that are left and answers them, and gives the place behind the answers.
+pub fn heap_lines(
+    sheet: &[u8],
+    out: &mut [u8],
+    n: u32,
+    lits: &[u32],
+    ends: &[u32],
+    values: &mut [u8],
+    levels: &mut [u32],
+    reasons: &mut [u32],
+    trail: &mut [u32],
+    opened: &mut [u32],
+    activity: &mut [f64],
+    heap: &mut [u32],
+    indices: &mut [u32],
+    decision: &mut [bool],
+    vars: &mut [u32],
+    s: HeapPlace,
+) -> usize
+    requires { ⌜ Room (now sheet) (s .place) (now out) ⌝ }
+    requires { ⌜ GoodSession n (length (now ends)) (now lits) (now ends) (trailOf (now values) (now levels) (now reasons) (now trail) (now opened) (s .state .trail)) (vsidsOf (now activity) (now heap) (now indices) (now decision) (s .state .vsids)) ⌝ }
+    requires { ⌜ length (now vars) ≡ number.maxGroup ⌝ }
+    ensures { λ r. ⌜ Ended (now (sheet .entry)) (s .place)
+        (inHeap n (now (lits .entry)) (now (ends .entry)) (sessionOf n (length (now (ends .entry))) (now (lits .entry)) (now (ends .entry)) (now (values .entry)) (now (levels .entry)) (now (reasons .entry)) (now (trail .entry)) (now (opened .entry)) (now (activity .entry)) (now (heap .entry)) (now (indices .entry)) (now (decision .entry)) (s .state)))
+        (now (out .entry))
+        r
+        (now (out .exit)) ⌝ }
+{
+    let mut u = s;
+    while u.place.left > 0 {
+        u = next_line(
+            sheet,
+            out,
+            n,
+            lits,
+            ends,
+            values,
+            levels,
+            reasons,
+            trail,
+            opened,
+            activity,
+            heap,
+            indices,
+            decision,
+            vars,
+            u,
+        );
+    }
+    u.place.at
+}
+
+// The states of a fresh session in slices of one length.
+fn start(
+    values: &mut [u8],
+    levels: &mut [u32],
+    reasons: &mut [u32],
+    trail: &mut [u32],
+    opened: &mut [u32],
+    activity: &mut [f64],
+    heap: &mut [u32],
+    indices: &mut [u32],
+    decision: &mut [bool],
+) -> HeapState
+    requires { ⌜ Lengths (length (now values)) (now values) (now levels) (now reasons) (now trail) (now opened) ⌝ }
+    requires { ⌜ length (now activity) ≤ number.maxVars ⌝ }
+    requires { ⌜ (length (now heap) ≡ length (now activity)) × ((length (now indices) ≡ length (now activity)) × (length (now decision) ≡ length (now activity))) ⌝ }
+    ensures { λ r. ⌜ trailOf (now (values .exit)) (now (levels .exit)) (now (reasons .exit)) (now (trail .exit)) (now (opened .exit)) (r .trail) ≡ freshTrail (length (now (values .entry))) ⌝ }
+    ensures { λ r. ⌜ vsidsOf (now (activity .exit)) (now (heap .exit)) (now (indices .exit)) (now (decision .exit)) (r .vsids) ≡ vsids-spec.new (length (now (activity .entry))) ⌝ }
+{
+    let t = trail::new_trail(values, levels, reasons, trail, opened);
+    let h = vsids::new(activity, heap, indices, decision);
+    HeapState { trail: t, vsids: h }
+}
+
+// Does the lines of a session from a fresh one on and answers them, and gives the place behind the answers.
+pub fn heap_session(
+    sheet: &[u8],
+    out: &mut [u8],
+    n: u32,
+    lits: &[u32],
+    ends: &[u32],
+    values: &mut [u8],
+    levels: &mut [u32],
+    reasons: &mut [u32],
+    trail: &mut [u32],
+    opened: &mut [u32],
+    activity: &mut [f64],
+    heap: &mut [u32],
+    indices: &mut [u32],
+    decision: &mut [bool],
+    vars: &mut [u32],
+    p: Place,
+) -> usize
+    requires { ⌜ Room (now sheet) p (now out) × (n ≤ number.maxVars) × GoodClauses n (now lits) (now ends) ⌝ }
+    requires { ⌜ Lengths n (now values) (now levels) (now reasons) (now trail) (now opened) ⌝ }
+    requires { ⌜ (length (now activity) ≡ n) × (length (now heap) ≡ n) × (length (now indices) ≡ n) × (length (now decision) ≡ n) ⌝ }
+    requires { ⌜ length (now vars) ≡ number.maxGroup ⌝ }
+    ensures { λ r. ⌜ Ended (now (sheet .entry)) p (spec.opened vsids n (now (lits .entry)) (now (ends .entry))) (now (out .entry)) r (now (out .exit)) ⌝ }
+{
+    let s = start(
+        values,
+        levels,
+        reasons,
+        trail,
+        opened,
+        activity,
+        heap,
+        indices,
+        decision,
+    );
+    if !heap_mode::check_state(
+        ends.len() as u32,
+        values,
+        levels,
+        reasons,
+        trail,
+        opened,
+        activity,
+        heap,
+        indices,
+        decision,
+        s,
+    ) {
+        return p.at;
+    }
+    heap_lines(
+        sheet,
+        out,
+        n,
+        lits,
+        ends,
+        values,
+        levels,
+        reasons,
+        trail,
+        opened,
+        activity,
+        heap,
+        indices,
+        decision,
+        vars,
+        HeapPlace { place: p, state: s },
+    )
 }
