@@ -1,3 +1,2 @@
--- The lines of a session in list mode, and the session that they meet.
+-- The lines of a session in list mode.
 pub mod Lines
-pub mod Start

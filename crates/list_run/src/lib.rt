@@ -1,22 +1,17 @@
 // The lines of a session in list mode: each is a call, answered in turn.
 ghost use mathlib.Core.Path.{_≡_};
-ghost use mathlib.Core.Bool.{true};
 ghost use mathlib.Core.List.{List};
 ghost use Prim.Native.Nat.{ℕ, _<_, _≤_};
 ghost use lib.ListN.{length};
 ghost use Rattle.lit.specs.Numbers as number;
-ghost use Rattle.formula.specs.Good.{GoodClauses};
-ghost use Rattle.trail.specs.Trail.{freshTrail};
-ghost use Rattle.trail.specs.Memory.{Lengths, trailOf};
-ghost use Rattle.vmtf.specs.Vmtf.{Literals, vmtfOf};
-ghost use Rattle.vmtf.specs.Vmtf as vmtf-spec;
+ghost use Rattle.trail.specs.Memory.{trailOf};
+ghost use Rattle.vmtf.specs.Vmtf.{vmtfOf};
 ghost use Rattle.choosers.specs.List.{listOps};
 ghost use Rattle.calls.specs.Entry.{Answered};
 ghost use Rattle.list_mode.specs.Memory.{sessionOf};
 ghost use Rattle.list_mode.specs.Good.{GoodSession};
-ghost use Rattle.forms.specs.Forms.{callIn, vmtf};
+ghost use Rattle.forms.specs.Forms.{callIn};
 ghost use Rattle.sheet.specs.Sheet.{called, inList};
-ghost use Rattle.sheet.specs.Sheet as spec;
 ghost use Rattle.sheet.specs.Running.{Room, Ended};
 ghost use Rattle.list_run.specs.Lines.{ListAlong};
 use forms::Read;
@@ -30,12 +25,6 @@ use text::NEWLINE;
 pub struct ListPlace {
     pub place: Place,
     pub state: ListState,
-}
-
-// The small states of a fresh session, and whether it passed its check.
-pub struct Begun {
-    pub state: ListState,
-    pub good: bool,
 }
 
 // A line on a good session: the call that it is, or refusal 3. The variables, stamps and order are scratch.
@@ -197,112 +186,4 @@ pub fn list_lines(
         );
     }
     u.place.at
-}
-
-// Makes a session fresh in slices of length n, for m clauses, and checks it. The variables and the order are scratch.
-fn begin(
-    n: u32,
-    m: u32,
-    lits: &[u32],
-    values: &mut [u8],
-    levels: &mut [u32],
-    reasons: &mut [u32],
-    trail: &mut [u32],
-    opened: &mut [u32],
-    next: &mut [u32],
-    prev: &mut [u32],
-    ts: &mut [u64],
-    vars: &mut [u32],
-    order: &mut [u32],
-) -> Begun
-    requires { ⌜ Lengths n (now values) (now levels) (now reasons) (now trail) (now opened) × (length (now next) ≡ n) × (length (now prev) ≡ n) × (length (now ts) ≡ n) ⌝ }
-    requires { ⌜ (n ≤ number.maxVars) × Literals n (now lits) × (n ≤ length (now vars)) × (n ≤ length (now order)) ⌝ }
-    ensures { λ r. ⌜ trailOf (now (values .exit)) (now (levels .exit)) (now (reasons .exit)) (now (trail .exit)) (now (opened .exit)) (r .state .trail) ≡ freshTrail n ⌝ }
-    ensures { λ r. ⌜ vmtfOf (now (next .exit)) (now (prev .exit)) (now (ts .exit)) (r .state .vmtf) ≡ vmtf-spec.new n (now (lits .entry)) ⌝ }
-    ensures { λ r. ⌜ r .good ≡ true ⌝ }
-{
-    let k = n as usize;
-    let t = trail::new_trail(values, levels, reasons, trail, opened);
-    let l = vmtf::new(lits, next, prev, ts, &mut vars[..k], &mut order[..k]);
-    let s = ListState { trail: t, vmtf: l };
-    let good = list_entry::check_state(
-        m,
-        values,
-        levels,
-        reasons,
-        trail,
-        opened,
-        next,
-        prev,
-        ts,
-        s,
-    );
-    Begun {
-        state: s,
-        good: good,
-    }
-}
-
-// The rest of a run in list mode: makes the session fresh, checks it once, and does its lines. The variables, stamps and order are scratch.
-pub fn list_session(
-    sheet: &[u8],
-    out: &mut [u8],
-    n: u32,
-    lits: &[u32],
-    ends: &[u32],
-    values: &mut [u8],
-    levels: &mut [u32],
-    reasons: &mut [u32],
-    trail: &mut [u32],
-    opened: &mut [u32],
-    next: &mut [u32],
-    prev: &mut [u32],
-    ts: &mut [u64],
-    vars: &mut [u32],
-    stamps: &mut [u64],
-    order: &mut [u32],
-    p: Place,
-) -> usize
-    requires { ⌜ Room (now sheet) p (now out) × (n ≤ number.maxVars) × GoodClauses n (now lits) (now ends) ⌝ }
-    requires { ⌜ Lengths n (now values) (now levels) (now reasons) (now trail) (now opened) × (length (now next) ≡ n) × (length (now prev) ≡ n) × (length (now ts) ≡ n) ⌝ }
-    requires { ⌜ (length (now vars) ≡ number.maxGroup) × (length (now stamps) ≡ number.maxGroup) × (length (now order) ≡ number.maxGroup) ⌝ }
-    ensures { λ r. ⌜ Ended (now (sheet .entry)) p (spec.opened vmtf n (now (lits .entry)) (now (ends .entry))) (now (out .entry)) r (now (out .exit)) ⌝ }
-{
-    let b = begin(
-        n,
-        ends.len() as u32,
-        lits,
-        values,
-        levels,
-        reasons,
-        trail,
-        opened,
-        next,
-        prev,
-        ts,
-        vars,
-        order,
-    );
-    if !b.good {
-        return p.at;
-    }
-    let s = b.state;
-    list_lines(
-        sheet,
-        out,
-        n,
-        ends,
-        values,
-        levels,
-        reasons,
-        trail,
-        opened,
-        next,
-        prev,
-        ts,
-        vars,
-        stamps,
-        order,
-        ListPlace { place: p, state: s },
-    )
 }

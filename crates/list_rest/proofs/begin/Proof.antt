@@ -1,14 +1,14 @@
--- `list_run::begin` meets its contract: the slices have the lengths that creation needs, and what it makes passes the check.
+-- `list_rest::begin` meets its contract: the slices have the lengths that creation needs, and what it makes passes the check.
 use Prim.Native.Nat.{ℕ}
 use mathlib.Core.Path.{sym, ap, _∙_}
 use native.Mathlib.Omega.{arith}
 use lib.Seq.{length-take-le}
 use Rattle.trail.specs.Trail.{freshTrail}
 use Rattle.vmtf.specs.Vmtf.{new}
-use Rattle.list_run.specs.Start.{start-good, start-checked}
+use Rattle.list_rest.specs.Start.{start-good, start-checked}
 use borrow.Author.Needs.{needs}
-use Rattle.list_run.proofs.begin.Statement.{statement}
-use Rattle.list_run.proofs.begin.Tie as tie
+use Rattle.list_rest.proofs.begin.Statement.{statement}
+use Rattle.list_rest.proofs.begin.Tie as tie
 
 slice-aggregate-new : tie.Need-slice-aggregate-new
 slice-aggregate-new c = let s = c .before .before .before .before .before .before .before .before .before .before .before .before .before .before .before .before .before .before .before .before .before .before .before .before .before .before .before .before .before .before .before in sym (length-take-le (s .args .n) (s .args .vars .now) (s .pre .1 .2))

@@ -1,11 +1,11 @@
--- `list_run::list_session` meets its contract: the session passes its check, and its lines end the run.
+-- `list_rest::list_session` meets its contract: the session passes its check, and its lines end the run.
 use mathlib.Core.Path.{sym, _∙_}
 use mathlib.Core.Bool.{false≢true}
 use native.Mathlib.Omega.{arith}
 use borrow.Author.Tests.{not-true}
-use Rattle.list_run.specs.Start.{start-literals, start-good, start-ended}
-use Rattle.list_run.proofs.list_session.Statement.{statement}
-use Rattle.list_run.proofs.list_session.Tie as tie
+use Rattle.list_rest.specs.Start.{start-literals, start-good, start-ended}
+use Rattle.list_rest.proofs.list_session.Statement.{statement}
+use Rattle.list_rest.proofs.list_session.Tie as tie
 
 cast-begin : tie.Need-cast-begin
 cast-begin c = omega (arith, c .before .before .before .before .before .before .before .before .before .before .before .before .before .before .before .pre .0 .2 .list .few-clauses)

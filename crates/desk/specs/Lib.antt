@@ -1,0 +1,2 @@
+-- A call sheet from its first line on, as code runs it.
+pub mod First

@@ -1,0 +1,55 @@
+// The rest of a run in heap mode, once the clause lines are read: the session is made fresh and checked once, and its lines are done.
+ghost use mathlib.Core.Path.{_≡_};
+ghost use Prim.Native.Nat.{_≤_};
+ghost use lib.ListN.{length};
+ghost use Rattle.lit.specs.Numbers as number;
+ghost use Rattle.formula.specs.Good.{GoodClauses};
+ghost use Rattle.forms.specs.Forms.{vsids};
+ghost use Rattle.sheet.specs.Sheet as spec;
+ghost use Rattle.sheet.specs.Running.{Room, Ended};
+use lit::NONE;
+use lit::UNASSIGNED;
+use sheet::Place;
+
+// Does the lines from a place on, and gives the place behind their answers. The positions are the heap's.
+pub fn rest(
+    sheet: &[u8],
+    out: &mut [u8],
+    positions: &mut [u32],
+    n: u32,
+    lits: &[u32],
+    ends: &[u32],
+    p: Place,
+) -> usize
+    requires { ⌜ Room (now sheet) p (now out) × (n ≤ number.maxVars) × GoodClauses n (now lits) (now ends) × (length (now positions) ≡ number.maxVars) ⌝ }
+    ensures { λ r. ⌜ Ended (now (sheet .entry)) p (spec.opened vsids n (now (lits .entry)) (now (ends .entry))) (now (out .entry)) r (now (out .exit)) ⌝ }
+{
+    let k = n as usize;
+    let mut values = [UNASSIGNED; 2048];
+    let mut levels = [NONE; 2048];
+    let mut reasons = [NONE; 2048];
+    let mut trail = [NONE; 2048];
+    let mut opened = [NONE; 2048];
+    let mut activity = [0.0; 2048];
+    let mut heap = [NONE; 2048];
+    let mut decision = [true; 2048];
+    let mut vars = [NONE; 2048];
+    heap_run::heap_session(
+        sheet,
+        out,
+        n,
+        lits,
+        ends,
+        &mut values[..k],
+        &mut levels[..k],
+        &mut reasons[..k],
+        &mut trail[..k],
+        &mut opened[..k],
+        &mut activity[..k],
+        &mut heap[..k],
+        &mut positions[..k],
+        &mut decision[..k],
+        &mut vars,
+        p,
+    )
+}

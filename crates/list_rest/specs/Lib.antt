@@ -1,0 +1,2 @@
+-- The session that the first line behind the clause lines meets, in list mode.
+pub mod Start
