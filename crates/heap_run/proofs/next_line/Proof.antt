@@ -59,7 +59,7 @@ next-line-spec =
     (λ c. search needs)
     part-line-call-end
     (λ c. search needs)
-    (λ c κs. search needs)
+    (λ c κs. c .before .before .before .before .before .before .before .before .before .before .before .before .before .before .before .before .before .before .before .before .before .before .before .before .before .before .before .before .pre .1)
     answer-requires
     behind-requires
     (λ c. c .before .before .before .before .answer .kept .0)
