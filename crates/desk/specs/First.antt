@@ -1,5 +1,5 @@
 -- A sheet from its first line on, as code runs it: what the first line opens, and the lines behind it. Assumes nothing.
-use Prim.Native.Nat.{ℕ, _+_, _*_, _≤_, _<_}
+use Prim.Native.Nat.{ℕ, _+_, _≤_, _<_}
 use mathlib.Core.Path.{_≡_, refl, sym, ap, subst, _∙_}
 use mathlib.Core.Bool.{Bool, true, false, cond}
 use mathlib.Core.Option.{Option, none, some}
@@ -7,7 +7,7 @@ use mathlib.Core.List.{List, []}
 use native.Mathlib.Omega.{arith}
 use borrow.Author.Tests.{le-leb, lt-leb}
 use lib.ListN.{length, take}
-use Rattle.lit.specs.Numbers.{maxVars, maxSheet, answerRoom, manyVars}
+use Rattle.lit.specs.Numbers.{maxVars, answerRoom, manyVars}
 use Rattle.book.specs.Session.{need}
 use Rattle.text.specs.Text.{lines, written}
 use Rattle.forms.specs.declared.First as code
@@ -50,9 +50,6 @@ told (some o) e = rw e (sym (in-mode (o .mode) (o .vars)))
 -- the answer to a first line is short
 first-short : (k : ℕ) → k < 100 → length (answerLine 1 k none) ≤ answerRoom
 first-short k few = answer-short 1 k none (omega arith) few
-
-pub first-few : {k r : ℕ} {out out′ : List ℕ} → k < 100 → Wrote 0 (answerLine 1 k none) out out′ r → r ≤ answerRoom * maxSheet
-first-few {k} few w = omega (arith, w .place, first-short k few)
 
 module _ {sheet out : List ℕ} {count : ℕ} (room : Room sheet (atFirst count) out) (more : 0 < count) where
   pub first-fits : (k : ℕ) → k < 100 → 0 + length (answerLine 1 k none) ≤ length out
@@ -98,5 +95,4 @@ section-ended mode {n} {sheet = sheet} {out′ = out′} {lits′} {ends′} {u 
     record {
       buffer = x .buffer ∙ (ap (λ (a : List ℕ). written (p .at) a out′) e ∙ so .end mode .buffer);
       count = x .count ∙ (ap (λ (a : List ℕ). p .at + length a) e ∙ so .end mode .count);
-      few = x .few;
     }

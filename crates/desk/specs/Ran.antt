@@ -1,15 +1,18 @@
--- The run as a host sees it: its two refusals, a sheet without lines, and the answers written. Assumes nothing.
-use Prim.Native.Nat.{ℕ, _*_, _-_, _≤_, _<_}
+-- The run as a host sees it, and as the program prints it. Assumes nothing.
+use Prim.Native.Nat.{ℕ, _+_, _*_, _-_, _≤_, _<_}
 use mathlib.Core.Path.{_≡_, refl}
-use mathlib.Core.List.{List}
+use mathlib.Core.List.{List, [], _∷_, _++_}
 use native.Mathlib.Omega.{arith}
-use borrow.Author.Tests.{le-leb, lt-leb}
-use lib.ListN.{length}
+use borrow.Author.Tests.{leb-true, le-leb, lt-leb}
+use lib.Dec.{leb}
+use lib.ListN.{length, set}
+use Rattle.laws.specs.Tests.{true-or-false}
 use Rattle.lit.specs.Numbers.{NONE, maxSheet, answerRoom, longSheet, shortBuffer}
-use Rattle.text.specs.Text.{newline, lines, occurs, written}
-use Rattle.text.specs.Laws.{occurs-length, lines-end}
-use Rattle.sheet.specs.Sheet.{answered, ran, result, bytes}
+use Rattle.text.specs.Text.{newline, lines, occurs, digits, written}
+use Rattle.text.specs.Laws.{occurs-length, lines-end, lines-length, digits-one}
+use Rattle.sheet.specs.Sheet.{Ran, wrote, refused, answered, ran, result, bytes}
 use Rattle.sheet.specs.Writing.{Wrote}
+use Rattle.sheet.specs.Bounds.{answered-short}
 use Rattle.sheet.specs.Running.{Room}
 use Rattle.desk.specs.First.{atFirst}
 
@@ -49,5 +52,50 @@ module _ (sheet out : List ℕ) where
         lines-left = refl;
         numbered = omega (arith, occurs-length newline sheet);
         fits = omega (arith, room);
-        few-bytes = omega arith;
       }
+
+-- 'the program then prints 1 or 2 alone on a line'
+abbrev pub printed : Ran → List ℕ
+printed (wrote bs) = bs
+printed (refused k) = digits k ++ (newline ∷ [])
+
+-- a run writes answers for which there was room, or is refused
+module _ (sheet : List ℕ) where
+  ran-is : (room : ℕ) (P : Ran → Type 0) → (length sheet ≤ maxSheet → P (wrote (answered (lines sheet)))) → P (refused shortBuffer) → P (refused longSheet) → P (ran sheet room)
+  unfolding ran
+  ran-is room P answers short long =
+      true-or-false (leb (length sheet) maxSheet)
+      (λ a. rw a (true-or-false (leb (answerRoom * occurs newline sheet) room) (λ b. rw b (answers (leb-true (length sheet) maxSheet a))) (λ b. rw b short)))
+      (λ a. rw a long)
+
+  pub few-bytes : length sheet ≤ maxSheet → length (answered (lines sheet)) < NONE - shortBuffer
+  few-bytes short =
+      let few = lines-length sheet in
+      let most = occurs-length newline sheet in
+      omega (arith, answered-short (lines sheet) (omega (arith, few, most)), few, most)
+
+-- what the program prints: the answers as they are written, or the refusal's digit
+module _ (sheet out : List ℕ) {r : ℕ} {out′ : List ℕ} where
+  pub printed-answers : Gave sheet out r out′ → r < NONE - shortBuffer → Wrote 0 (printed (ran sheet (length out))) out out′ r
+  printed-answers g few =
+      ran-is sheet (length out) (λ (x : Ran). r ≡ result x → out′ ≡ written 0 (bytes x) out → Wrote 0 (printed x) out out′ r)
+      (λ short count buffer. record { buffer = buffer; place = omega (arith, count) })
+      (λ count buffer. absurd (omega (arith, count, few)))
+      (λ count buffer. absurd (omega (arith, count, few)))
+      (g .0)
+      (g .1)
+
+  one-digit : (k : ℕ) → k < 10 → r ≡ NONE - k → out′ ≡ written 0 [] out → Wrote 0 (digits k ++ (newline ∷ [])) out (set (set out′ 0 (48 + (NONE - r))) 1 newline) 2
+  unfolding written
+  one-digit k small count buffer =
+      let e : NONE - r ≡ k = omega (arith, count) in
+      rw (digits-one k small, e, buffer) (record { buffer = refl; place = refl })
+
+  pub printed-refusal : Gave sheet out r out′ → NONE - shortBuffer ≤ r → Wrote 0 (printed (ran sheet (length out))) out (set (set out′ 0 (48 + (NONE - r))) 1 newline) 2
+  printed-refusal g many =
+      ran-is sheet (length out) (λ (x : Ran). r ≡ result x → out′ ≡ written 0 (bytes x) out → Wrote 0 (printed x) out (set (set out′ 0 (48 + (NONE - r))) 1 newline) 2)
+      (λ short count buffer. absurd (omega (arith, count, many, few-bytes sheet short)))
+      (λ count buffer. one-digit shortBuffer (omega arith) count buffer)
+      (λ count buffer. one-digit longSheet (omega arith) count buffer)
+      (g .0)
+      (g .1)

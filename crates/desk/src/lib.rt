@@ -14,6 +14,7 @@ ghost use Rattle.sheet.specs.Sheet as spec;
 ghost use Rattle.sheet.specs.Writing.{Wrote};
 ghost use Rattle.sheet.specs.Running.{linesFrom, lineLength, Room, Ended};
 ghost use Rattle.desk.specs.First.{atFirst, modeOf, openingAt};
+ghost use Rattle.desk.specs.Ran.{printed};
 use forms::First;
 use lit::ANSWER_ROOM;
 use lit::BAD_LINE;
@@ -86,7 +87,6 @@ fn open(
 ) -> usize
     requires { ⌜ Room (now sheet) (atFirst count) (now out) × (0 < count) × (end ≡ lineLength (now sheet) 0) × (length (now positions) ≡ number.maxVars) ⌝ }
     ensures { λ r. ⌜ Wrote 0 (spec.started (spec.opening (some (openingAt heap n))) (linesFrom (now (sheet .entry)) (end + 1))) (now (out .entry)) (now (out .exit)) r ⌝ }
-    ensures { λ r. ⌜ r ≤ number.answerRoom * number.maxSheet ⌝ }
 {
     if n > MAX_VARS {
         return answer(out, 0, 1, MANY_VARS, NONE);
@@ -106,7 +106,6 @@ fn open(
 fn answer_all(sheet: &[u8], out: &mut [u8], positions: &mut [u32], count: u32) -> usize
     requires { ⌜ Room (now sheet) (atFirst count) (now out) × (0 < count) × (length (now positions) ≡ number.maxVars) ⌝ }
     ensures { λ r. ⌜ Wrote 0 (answered (text-spec.lines (now (sheet .entry)))) (now (out .entry)) (now (out .exit)) r ⌝ }
-    ensures { λ r. ⌜ r ≤ number.answerRoom * number.maxSheet ⌝ }
 {
     let end = text::find(sheet, NEWLINE);
     match forms::read_first(&sheet[..end]) {
@@ -133,6 +132,20 @@ pub fn run(sheet: &[u8], out: &mut [u8], positions: &mut [u32]) -> u32
         return 0;
     }
     answer_all(sheet, out, positions, count as u32) as u32
+}
+
+// Runs a sheet for the program: what it prints stands at the front of `out`, the answers or refusal 1 or 2 alone on a line, and so many bytes.
+pub fn print(sheet: &[u8], out: &mut [u8], positions: &mut [u32]) -> usize
+    requires { ⌜ (length (now positions) ≡ number.maxVars) × (2 ≤ length (now out)) ⌝ }
+    ensures { λ r. ⌜ Wrote 0 (printed (ran (now (sheet .entry)) (length (now (out .entry))))) (now (out .entry)) (now (out .exit)) r ⌝ }
+{
+    let r = run(sheet, out, positions);
+    if r < NONE - SHORT_BUFFER {
+        return r as usize;
+    }
+    out[0] = 48 + (NONE - r) as u8;
+    out[1] = NEWLINE;
+    2
 }
 
 // The entry for hosts: as `run`, with positions of its own.

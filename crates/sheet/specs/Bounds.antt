@@ -1,24 +1,25 @@
 -- How long an answer is: at most 20 bytes of the 24 that the buffer has for each line. Assumes nothing.
-use Prim.Native.Nat.{ℕ, _≤_, _<_}
+use Prim.Native.Nat.{ℕ, suc, _+_, _*_, _≤_, _<_}
 use mathlib.Core.Path.{_≡_, refl}
 use mathlib.Core.Bool.{Bool, true, false}
 use mathlib.Core.Option.{Option, none, some}
 use mathlib.Core.List.{List, [], _∷_, _++_}
 use native.Mathlib.Omega.{arith}
 use borrow.Author.Tests.{ne-eqb}
+use lib.Dec.{leb}
 use lib.ListN.{length, length-append}
-use Rattle.lit.specs.Numbers.{NONE, answerRoom}
+use Rattle.lit.specs.Numbers.{NONE, maxVars, maxSheet, answerRoom}
 use Rattle.formula.specs.Clauses.{clauseFits}
 use Rattle.choosers.specs.Heap.{heapOps}
 use Rattle.choosers.specs.List.{listOps}
 use Rattle.book.specs.Calls.{Call, bump, decay, setDecay, insert, switchOff, decide, enqueue, learnUnit, goBack, bumpReason, group}
 use Rattle.book.specs.Chooser.{Next, chose, nothing, stuck, Operations}
-use Rattle.book.specs.Session.{Result, done, refuse, status, need, Session, tuned, decided, call}
+use Rattle.book.specs.Session.{Result, done, refuse, status, reply, leaves, need, Session, tuned, decided, call}
 use Rattle.calls.specs.Entry.{replyNumber}
 use Rattle.text.specs.Text.{tab, newline, digits}
 use Rattle.text.specs.Laws.{digits-two, digits-five, digits-room}
-use Rattle.forms.specs.Forms.{Mode, callIn, codesIn}
-use Rattle.sheet.specs.Sheet.{Stage, reading, inHeap, inList, called, staged, clauseWith, turn, replyText, replyOf, field, ending, answerLine}
+use Rattle.forms.specs.Forms.{Mode, Opening, callIn, codesIn, firstIn}
+use Rattle.sheet.specs.Sheet.{Stage, reading, inHeap, inList, called, staged, clauseWith, meets, turn, replyText, replyOf, field, ending, answerLine, answers, opening, started, answered}
 
 -- five digits, two and ten, two tabs and a newline
 reply-short : (r : Option ℕ) → length (replyText r) ≤ 10
@@ -93,6 +94,35 @@ pub turn-small : (stage : Stage) (line : List ℕ) → status (turn stage line) 
 turn-small (reading mode n lits ends) line = clause-few mode n lits ends (codesIn line)
 turn-small (inHeap n lits ends s) line = staged-few (inHeap n lits ends) (called n (length ends) (heapOps n lits ends) s (callIn line)) (status-small n (length ends) (heapOps n lits ends) s (callIn line))
 turn-small (inList n lits ends s) line = staged-few (inList n lits ends) (called n (length ends) (listOps n lits) s (callIn line)) (status-small n (length ends) (listOps n lits) s (callIn line))
+
+opening-few : (o : Option Opening) → Few (opening o)
+opening-few none = omega arith
+opening-few (some o) = need-few (leb (o .vars) maxVars) _ _ (omega arith) (omega arith)
+
+-- the answers to all lines have room where each line has its 24 bytes
+answers-short : (i : ℕ) (stage : Stage) (ls : List (List ℕ)) → i + length ls ≤ 100000 → length (answers i stage ls) ≤ answerRoom * length ls
+unfolding answers
+answers-short i stage [] h = omega arith
+answers-short i stage (line ∷ ls) h =
+    let at = meets stage line in
+    let x = turn at line in
+    let rest = leaves at x in
+    omega (
+      arith,
+      length-append (answerLine i (status x) (reply x)) (answers (i + 1) rest ls),
+      answer-short i (status x) (reply x) (omega arith) (turn-small at line),
+      answers-short (i + 1) rest ls (omega arith),
+    )
+
+started-short : (x : Result Stage) (ls : List (List ℕ)) → Few x → length ls < maxSheet → length (started x ls) ≤ answerRoom * suc (length ls)
+started-short (done r stage) ls few h =
+    omega (arith, length-append (answerLine 1 0 r) (answers 2 stage ls), answer-short 1 0 r (omega arith) (omega arith), answers-short 2 stage ls (omega arith))
+started-short (refuse k) ls few h = omega (arith, answer-short 1 k none (omega arith) few)
+
+pub answered-short : (ls : List (List ℕ)) → length ls ≤ maxSheet → length (answered ls) ≤ answerRoom * length ls
+unfolding answered
+answered-short [] h = omega arith
+answered-short (line ∷ ls) h = started-short (opening (firstIn line)) ls (opening-few (firstIn line)) (omega arith)
 
 -- none, or a number that is not the one for none
 abbrev pub Small : Option ℕ → Type 0

@@ -37,7 +37,6 @@ pub record Room (sheet : List ℕ) (p : Place) (out : List ℕ) : Type 0 where
   pub lines-left : p .left ≡ occurs newline (drop (p .from) sheet)
   pub numbered : p .line + p .left ≤ maxSheet + 1
   pub fits : p .at + answerRoom * p .left ≤ length out
-  pub few-bytes : p .at + answerRoom ≤ answerRoom * p .line
 
 -- the buffer once these lines are answered, and the count of bytes
 abbrev pub finished : List ℕ → Place → Stage → List ℕ → List ℕ
@@ -50,7 +49,6 @@ total sheet p stage = p .at + length (answers (p .line) stage (linesFrom sheet (
 pub record Ended (sheet : List ℕ) (p : Place) (stage : Stage) (out : List ℕ) (r : ℕ) (out′ : List ℕ) : Type 0 where
   pub buffer : out′ ≡ finished sheet p stage out
   pub count : r ≡ total sheet p stage
-  pub few : r ≤ answerRoom * maxSheet
 
 -- from the place q, the stage u and the buffer out′ a run comes to the same end as from p, s and out
 pub record SameEnd (sheet : List ℕ) (p : Place) (s : Stage) (out : List ℕ) (q : Place) (u : Stage) (out′ : List ℕ) : Type 0 where

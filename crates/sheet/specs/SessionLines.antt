@@ -40,7 +40,6 @@ module _ {S : Type 0} {Good : S → Type 0} {stage : S → Stage} {sheet : List 
       let e = lines-over (a .room) over in record {
         buffer = rw e at (a .end .buffer);
         count = omega (arith, a .end .count, ap (λ (ls : List (List ℕ)). length (answers (q .line) (stage u) ls)) e);
-        few = omega (arith, a .room .few-bytes, a .room .numbered);
       }
 
 -- what the result of a line says of a session, it says of the stage

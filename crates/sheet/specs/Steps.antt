@@ -63,7 +63,6 @@ module _ {sheet : List ℕ} {p : Place} {out : List ℕ} (room : Room sheet p ou
         lines-left = omega (arith, room .lines-left, occurs-next newline (drop (p .from) sheet) line-found, ap (occurs newline) behind-line);
         numbered = omega (arith, room .numbered);
         fits = omega (arith, room .fits, wrote .place, same-room wrote);
-        few-bytes = omega (arith, room .few-bytes, wrote .place);
       }
 
     -- the answer written, the run comes to the same end from behind the line

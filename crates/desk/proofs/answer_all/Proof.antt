@@ -4,7 +4,7 @@ use native.Mathlib.Omega.{arith}
 use lib.Seq.{length-take-le}
 use Rattle.text.specs.Text.{newline}
 use Rattle.text.specs.Laws.{find-length}
-use Rattle.desk.specs.First.{first-few, first-fits, first-done}
+use Rattle.desk.specs.First.{first-fits, first-done}
 use borrow.Author.Needs.{needs}
 use Rattle.desk.proofs.answer_all.Statement.{statement}
 use Rattle.desk.proofs.answer_all.Tie as tie
@@ -27,19 +27,19 @@ returns : tie.Need-returns
 returns c =
     let s = c .before .before .before .before .before .before .before .before .before .before .before .before in
     let w = c .before .before .answer .ensures in
-    (first-done (s .pre .0) (s .pre .1) (c .before .before .before .before .before .before .before .before .find .ensures) (c .before .before .before .before .before .before .read-first .ensures) (rw (c .before .before .before .before .enum-told .given .1) w), first-few (omega arith) w)
+    first-done (s .pre .0) (s .pre .1) (c .before .before .before .before .before .before .before .before .find .ensures) (c .before .before .before .before .before .before .read-first .ensures) (rw (c .before .before .before .before .enum-told .given .1) w)
 
 returns-2 : tie.Need-returns-2
 returns-2 c =
     let s = c .before .before .before .before .before .before .before .before .before .before .before .before .before .before .before .before in
     let w = c .before .before .before .before .«open» .ensures in
-    (first-done (s .pre .0) (s .pre .1) (c .before .before .before .before .before .before .before .before .before .before .before .before .find .ensures) (c .before .before .before .before .before .before .before .before .before .before .read-first .ensures) (rw (c .before .before .before .before .before .before .before .before .n .given .1) (w .0)), w .1)
+    first-done (s .pre .0) (s .pre .1) (c .before .before .before .before .before .before .before .before .before .before .before .before .find .ensures) (c .before .before .before .before .before .before .before .before .before .before .read-first .ensures) (rw (c .before .before .before .before .before .before .before .before .n .given .1) w)
 
 returns-3 : tie.Need-returns-3
 returns-3 c =
     let s = c .before .before .before .before .before .before .before .before .before .before .before .before .before .before .before .before in
     let w = c .before .before .before .before .open2 .ensures in
-    (first-done (s .pre .0) (s .pre .1) (c .before .before .before .before .before .before .before .before .before .before .before .before .find .ensures) (c .before .before .before .before .before .before .before .before .before .before .read-first .ensures) (rw (c .before .before .before .before .before .before .before .before .n2 .given .1) (w .0)), w .1)
+    first-done (s .pre .0) (s .pre .1) (c .before .before .before .before .before .before .before .before .before .before .before .before .find .ensures) (c .before .before .before .before .before .before .before .before .before .before .read-first .ensures) (rw (c .before .before .before .before .before .before .before .before .n2 .given .1) w)
 
 pub answer-all-spec : {M : Type 1} → statement M
 answer-all-spec =

@@ -4,7 +4,7 @@ use mathlib.Core.Path.{sym, _∙_}
 use native.Mathlib.Omega.{arith}
 use Rattle.text.specs.Text.{newline}
 use Rattle.text.specs.Laws.{occurs-length}
-use Rattle.desk.specs.Ran.{gave-long, gave-no-room, gave-answers, gave-none, start-room}
+use Rattle.desk.specs.Ran.{gave-long, gave-no-room, gave-answers, gave-none, start-room, few-bytes}
 use borrow.Author.Needs.{needs}
 use Rattle.desk.proofs.run.Statement.{statement}
 use Rattle.desk.proofs.run.Tie as tie
@@ -33,8 +33,11 @@ answer-all-requires c κs =
     let count = c .before .before .before .before .occurs .ensures in
     rw count (start-room (s .args .sheet .now) (s .args .out .now) (c .before .before .before .before .before .if1 .left) (rw count at (c .before .before .before .if2 .left)), omega (arith, count, c .before .before .if3 .left), s .pre)
 
+cast-result : tie.Need-cast-result
+cast-result c = omega (arith, c .before .before .before .before .answer-all .ensures .place, few-bytes (c .before .before .before .before .before .before .before .before .before .before .before .before .before .before .args .sheet .now) (c .before .before .before .before .before .before .before .before .before .before .if1 .left))
+
 returns-4 : tie.Need-returns-4
-returns-4 c = let s = c .before .before .before .before .before .before .before .before .before .before .before .before .before .before in gave-answers (s .args .sheet .now) (s .args .out .now) (c .before .before .before .before .before .before .before .before .before .before .if1 .left) (rw (c .before .before .before .before .before .before .before .before .before .occurs .ensures) at (c .before .before .before .before .before .before .before .before .if2 .left)) (c .before .before .before .before .answer-all .ensures .0)
+returns-4 c = let s = c .before .before .before .before .before .before .before .before .before .before .before .before .before .before in gave-answers (s .args .sheet .now) (s .args .out .now) (c .before .before .before .before .before .before .before .before .before .before .if1 .left) (rw (c .before .before .before .before .before .before .before .before .before .occurs .ensures) at (c .before .before .before .before .before .before .before .before .if2 .left)) (c .before .before .before .before .answer-all .ensures)
 
 pub run-spec : {M : Type 1} → statement M
 run-spec =
@@ -51,7 +54,7 @@ run-spec =
     returns-3
     cast-answer-all
     answer-all-requires
-    (λ c. search needs)
+    cast-result
     (λ c. search needs)
     (λ c. search needs)
     returns-4)

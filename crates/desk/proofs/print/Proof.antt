@@ -1,0 +1,30 @@
+-- `desk::print` meets its contract: a count below the refusals is that of the answers, and any other is a refusal.
+use Rattle.desk.specs.Ran.{printed-answers, printed-refusal}
+use borrow.Author.Needs.{needs}
+use Rattle.desk.proofs.print.Statement.{statement}
+use Rattle.desk.proofs.print.Tie as tie
+
+returns : tie.Need-returns
+returns c = let s = c .before .before .before .before .before .before .before .before .before .before .before in printed-answers (s .args .sheet .now) (s .args .out .now) (c .before .before .before .before .before .run .ensures) (c .if1 .taken)
+
+returns-2 : tie.Need-returns-2
+returns-2 c = let s = c .before .before .before .before .before .before .before .before .before .before .before in printed-refusal (s .args .sheet .now) (s .args .out .now) (c .before .before .before .before .before .run .ensures) (c .if1 .left)
+
+pub print-spec : {M : Type 1} → statement M
+print-spec =
+    tie.close
+    (tie.spec
+    (λ c κs. search needs)
+    (λ c. search needs)
+    (λ c. search needs)
+    (λ c. search needs)
+    (λ c. search needs)
+    returns
+    (λ c. search needs)
+    (λ c. search needs)
+    (λ c. search needs)
+    (λ c. search needs)
+    (λ c. search needs)
+    (λ c. search needs)
+    (λ c. search needs)
+    returns-2)
