@@ -61,25 +61,34 @@ printed (refused k) = digits k ++ (newline ∷ [])
 
 -- a run writes answers for which there was room, or is refused
 module _ (sheet : List ℕ) where
-  ran-is : (room : ℕ) (P : Ran → Type 0) → (length sheet ≤ maxSheet → P (wrote (answered (lines sheet)))) → P (refused shortBuffer) → P (refused longSheet) → P (ran sheet room)
+  ran-is : (room : ℕ) (P : Ran → Type 0) → (length sheet ≤ maxSheet → answerRoom * occurs newline sheet ≤ room → P (wrote (answered (lines sheet))))
+      → P (refused shortBuffer) → P (refused longSheet) → P (ran sheet room)
   unfolding ran
   ran-is room P answers short long =
       true-or-false (leb (length sheet) maxSheet)
-      (λ a. rw a (true-or-false (leb (answerRoom * occurs newline sheet) room) (λ b. rw b (answers (leb-true (length sheet) maxSheet a))) (λ b. rw b short)))
+      (λ a. rw a (true-or-false (leb (answerRoom * occurs newline sheet) room) (λ b. rw b (answers (leb-true (length sheet) maxSheet a) (leb-true (answerRoom * occurs newline sheet) room b))) (λ b. rw b short)))
       (λ a. rw a long)
 
+  -- each line has its room
+  lines-fit : length sheet ≤ maxSheet → length (answered (lines sheet)) ≤ answerRoom * occurs newline sheet
+  lines-fit short = let few = lines-length sheet in omega (arith, answered-short (lines sheet) (omega (arith, few, occurs-length newline sheet)), few)
+
   pub few-bytes : length sheet ≤ maxSheet → length (answered (lines sheet)) < NONE - shortBuffer
-  few-bytes short =
-      let few = lines-length sheet in
-      let most = occurs-length newline sheet in
-      omega (arith, answered-short (lines sheet) (omega (arith, few, most)), few, most)
+  few-bytes short = omega (arith, lines-fit short, occurs-length newline sheet)
+
+  pub printed-fits : (room : ℕ) → 2 ≤ room → length (printed (ran sheet room)) ≤ room
+  printed-fits room two =
+      ran-is room (λ (x : Ran). length (printed x) ≤ room)
+      (λ short fits. omega (arith, lines-fit short))
+      (rw (digits-one shortBuffer (omega arith)) two)
+      (rw (digits-one longSheet (omega arith)) two)
 
 -- what the program prints: the answers as they are written, or the refusal's digit
 module _ (sheet out : List ℕ) {r : ℕ} {out′ : List ℕ} where
   pub printed-answers : Gave sheet out r out′ → r < NONE - shortBuffer → Wrote 0 (printed (ran sheet (length out))) out out′ r
   printed-answers g few =
       ran-is sheet (length out) (λ (x : Ran). r ≡ result x → out′ ≡ written 0 (bytes x) out → Wrote 0 (printed x) out out′ r)
-      (λ short count buffer. record { buffer = buffer; place = omega (arith, count) })
+      (λ short fits count buffer. record { buffer = buffer; place = omega (arith, count) })
       (λ count buffer. absurd (omega (arith, count, few)))
       (λ count buffer. absurd (omega (arith, count, few)))
       (g .0)
@@ -94,7 +103,7 @@ module _ (sheet out : List ℕ) {r : ℕ} {out′ : List ℕ} where
   pub printed-refusal : Gave sheet out r out′ → NONE - shortBuffer ≤ r → Wrote 0 (printed (ran sheet (length out))) out (set (set out′ 0 (48 + (NONE - r))) 1 newline) 2
   printed-refusal g many =
       ran-is sheet (length out) (λ (x : Ran). r ≡ result x → out′ ≡ written 0 (bytes x) out → Wrote 0 (printed x) out (set (set out′ 0 (48 + (NONE - r))) 1 newline) 2)
-      (λ short count buffer. absurd (omega (arith, count, many, few-bytes sheet short)))
+      (λ short fits count buffer. absurd (omega (arith, count, many, few-bytes sheet short)))
       (λ count buffer. one-digit shortBuffer (omega arith) count buffer)
       (λ count buffer. one-digit longSheet (omega arith) count buffer)
       (g .0)

@@ -138,6 +138,7 @@ pub fn run(sheet: &[u8], out: &mut [u8], positions: &mut [u32]) -> u32
 pub fn print(sheet: &[u8], out: &mut [u8], positions: &mut [u32]) -> usize
     requires { ⌜ (length (now positions) ≡ number.maxVars) × (2 ≤ length (now out)) ⌝ }
     ensures { λ r. ⌜ Wrote 0 (printed (ran (now (sheet .entry)) (length (now (out .entry))))) (now (out .entry)) (now (out .exit)) r ⌝ }
+    ensures { λ r. ⌜ r ≤ length (now (out .entry)) ⌝ }
 {
     let r = run(sheet, out, positions);
     if r < NONE - SHORT_BUFFER {
