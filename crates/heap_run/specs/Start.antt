@@ -1,6 +1,6 @@
 -- A fresh session in heap mode, as code makes it: it is good, it passes the check, and it is the stage that opens after the clause lines. Assumes nothing.
 use Prim.Native.Nat.{ℕ, _≤_}
-use mathlib.Core.Path.{_≡_, refl, _∙_}
+use mathlib.Core.Path.{_≡_, refl}
 use mathlib.Core.Bool.{true}
 use mathlib.Core.List.{List}
 use lib.ListN.{length}
@@ -10,12 +10,11 @@ use Rattle.trail.specs.Trail.{Trail, freshTrail}
 use Rattle.trail.specs.Memory.{Sized}
 use Rattle.vsids.specs.Vsids.{Vsids, new}
 use Rattle.vsids.specs.Check.{SameLengths}
-use Rattle.choosers.specs.Heap.{heapOps}
-use Rattle.book.specs.Session.{Session, fresh}
+use Rattle.book.specs.Session.{fresh}
 use Rattle.heap_calls.specs.Good.{GoodSession}
 use Rattle.heap_mode.specs.Check.{stateOk, good-checked, fresh-session}
 use Rattle.forms.specs.Forms.{vsids}
-use Rattle.sheet.specs.Sheet.{Stage, inHeap, opened}
+use Rattle.sheet.specs.Sheet.{inHeap, opened}
 
 module _ (n : ℕ) (lits ends : List ℕ) {t : Trail} {h : Vsids} {k l : ℕ} (trail : t ≡ freshTrail k) (values : k ≡ n) (heap : h ≡ new l) (activity : l ≡ n) where
   -- the stage that opens in heap mode has this session
