@@ -153,5 +153,5 @@ pub fn check_state(
     if !trail_check::check_trail(m, values, levels, reasons, trail, opened, t) {
         return false;
     }
-    vsids::check_heap(values, activity, heap, indices, decision, h)
+    vsids_check::check_heap(values, activity, heap, indices, decision, h)
 }

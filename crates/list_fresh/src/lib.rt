@@ -81,6 +81,6 @@ pub fn fresh(
         return refuse(k, blank_state());
     }
     let t = trail::new_trail(values, levels, reasons, trail, opened);
-    let l = vmtf::new(lits, next, prev, ts, counts, indexes);
+    let l = vmtf_new::new(lits, next, prev, ts, counts, indexes);
     accept(NONE, ListState { trail: t, vmtf: l })
 }

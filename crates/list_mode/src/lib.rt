@@ -132,7 +132,7 @@ fn group(
     }
     let t = s.trail;
     let l = s.vmtf;
-    let u = vmtf::bump_vec_of_vars(next, prev, ts, l, vars, stamps, order);
+    let u = vmtf_moves::bump_vec_of_vars(next, prev, ts, l, vars, stamps, order);
     accept(NONE, ListState { trail: t, vmtf: u })
 }
 

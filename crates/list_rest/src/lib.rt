@@ -48,7 +48,7 @@ fn begin(
 {
     let k = n as usize;
     let t = trail::new_trail(values, levels, reasons, trail, opened);
-    let l = vmtf::new(lits, next, prev, ts, &mut vars[..k], &mut order[..k]);
+    let l = vmtf_new::new(lits, next, prev, ts, &mut vars[..k], &mut order[..k]);
     let s = ListState { trail: t, vmtf: l };
     let good = list_entry::check_state(
         m,

@@ -1,0 +1,2 @@
+-- What the steps of the two sorts do.
+pub mod Steps

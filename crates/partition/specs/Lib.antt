@@ -1,0 +1,2 @@
+-- What a partition does.
+pub mod Parting

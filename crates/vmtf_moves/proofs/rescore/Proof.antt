@@ -1,0 +1,11 @@
+use Rattle.vmtf.specs.Vmtf.{rescore}
+use borrow.Author.Needs.{needs}
+use Rattle.vmtf_moves.proofs.rescore.Statement.{statement}
+use Rattle.vmtf_moves.proofs.rescore.Tie as tie
+
+returns : tie.Need-returns
+unfolding rescore
+returns c = λ prev. rw (c .before .before .renumber .ensures)
+
+pub rescore-spec : {M : Type 1} → statement M
+rescore-spec = tie.close (tie.spec (λ c κs. search needs) (λ c. search needs) (λ c. search needs) returns)
