@@ -5,3 +5,4 @@ pub mod Runs
 pub mod States
 pub mod Definitions
 pub mod Cases
+pub mod Sheet

@@ -42,8 +42,8 @@ listOps n lits = record {
   switches = false;
   start = vmtf.new n lits;
   tune = tune;
-  insert = λ v l. l;
-  offer = λ v l. l;
+  insert = vmtf.insert;
+  offer = vmtf.insert;
   turnOff = λ v l. l;
   getNext = λ values l. nextOf l (vmtf.getNext values l);
 }

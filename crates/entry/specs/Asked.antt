@@ -1,6 +1,9 @@
 -- What an entry point gets with a call.
 use Prim.Native.Nat.{ℕ}
+use mathlib.Core.Path.{_≡_}
+use mathlib.Core.Bool.{false}
 use mathlib.Core.List.{List}
+use lib.Dec.{eqb}
 use Rattle.book.specs.Calls.{Call}
 use Rattle.calls.specs.declared.Call as code
 use Rattle.calls.specs.Calls.{callOf}
@@ -18,3 +21,12 @@ asks call vars stamps order = record { call = call; vars = vars; stamps = stamps
 -- the call of the book that it is
 abbrev pub asked : Asked → Call
 asked a = callOf (a .call) (a .vars)
+
+-- how a call of a session comes: with the sizes and the clause list that the session was made with, or with others, and then refused
+pub data Lent : Type 0 where
+  asMade : Asked → Lent
+  otherwise : Asked → (k : ℕ) → eqb k 0 ≡ false → Lent
+
+abbrev pub lentCall : Lent → Call
+lentCall (asMade a) = asked a
+lentCall (otherwise a k e) = asked a

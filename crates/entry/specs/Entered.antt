@@ -15,11 +15,11 @@ use Rattle.formula.specs.Good.{GoodClauses, clauses-facts}
 use Rattle.trail.specs.Memory.{Sized}
 use Rattle.book.specs.Calls.{Call}
 use Rattle.book.specs.Chooser.{Chooser}
-use Rattle.book.specs.Session.{done, status, leaves, Session, fresh, call}
+use Rattle.book.specs.Session.{Result, done, refuse, status, leaves, Session, fresh, call}
 use Rattle.book.specs.Claim.{Run, begin, Claim}
-use Rattle.book.specs.Guarded.{Guarded, runBy}
+use Rattle.book.specs.Guarded.{Guarded, declined, runBy}
 use Rattle.book.proofs.Guarded.{guarded-term3, throughout}
-use Rattle.entry.specs.Asked.{Asked, asked}
+use Rattle.entry.specs.Asked.{Asked, Lent, asMade, otherwise, asked, lentCall}
 use Rattle.entry.specs.Checks.{stateRefusal, size-passed, state-passed, passed-none, size-accepted, accepted, size-zero, checked-zero, checked-guarded}
 use Rattle.entry.specs.Mode.{scratchLengths, Mode, lengthsOk, entered, made}
 use Rattle.entry.specs.Sizes.{both, Sizes, sizes-right, right-sizes}
@@ -116,23 +116,28 @@ module _ (n m : ℕ) (M : Mode) (lits : List ℕ) (literals : ℕ) (ends : List 
 
 -- a run as in `book`, of checked calls
 module _ (n m : ℕ) (M : Mode) (lits : List ℕ) (literals : ℕ) (ends : List ℕ) where
-  abbrev pub runChecked : Run n m (M .ops) → List Asked → Run n m (M .ops)
-  runChecked = runBy n m (M .ops) asked (λ s a. entered n m M lits literals ends a s)
+  abbrev pub lentAnswer : Session n m (M .ops) → Lent → Result (Session n m (M .ops))
+  lentAnswer s (asMade a) = entered n m M lits literals ends a s
+  lentAnswer s (otherwise a k e) = refuse k
 
-  guards : (s : Session n m (M .ops)) (a : Asked) → Guarded (call n m (M .ops) s (asked a)) (entered n m M lits literals ends a s)
+  abbrev pub runChecked : Run n m (M .ops) → List Lent → Run n m (M .ops)
+  runChecked = runBy n m (M .ops) lentCall lentAnswer
+
+  guards : (s : Session n m (M .ops)) (a : Lent) → Guarded (call n m (M .ops) s (lentCall a)) (lentAnswer s a)
   unfolding entered
-  guards s a = checked-guarded n _ _ _ _
+  guards s (asMade a) = checked-guarded n _ _ _ _
+  guards s (otherwise a k e) = declined k e
 
-  -- Term 3 of every list of checked calls from a fresh session, whatever scratch is lent with them
-  pub checked-term3 : Chooser n m (M .ops) → (asks : List Asked) → Claim n m (M .ops) (runChecked (begin n m (M .ops)) asks)
-  checked-term3 C asks = guarded-term3 n m (M .ops) asked (λ s a. entered n m M lits literals ends a s) guards C asks
+  -- Term 3 of every list of checked calls from a fresh session, whatever is lent with them
+  pub checked-term3 : Chooser n m (M .ops) → (asks : List Lent) → Claim n m (M .ops) (runChecked (begin n m (M .ops)) asks)
+  checked-term3 C asks = guarded-term3 n m (M .ops) lentCall lentAnswer guards C asks
 
   module _ (L : Sound n m M lits ends) (b : n ≤ maxVars) (em : length ends ≡ m) (g : GoodClauses n lits ends) where
     -- every session of such a run is good
-    pub run-good : (asks : List Asked) → L .Good ((runChecked (begin n m (M .ops)) asks) .now)
-    run-good asks = throughout n m (M .ops) asked (λ s a. entered n m M lits literals ends a s) guards (L .Good) (L .kept) (L .fresh-good b em g) asks
+    pub run-good : (asks : List Lent) → L .Good ((runChecked (begin n m (M .ops)) asks) .now)
+    run-good asks = throughout n m (M .ops) lentCall lentAnswer guards (L .Good) (L .kept) (L .fresh-good b em g) asks
 
-    -- so a call in it is refused before its own tests only for its scratch
-    pub run-unchecked : length lits ≡ literals → (asks : List Asked) (a : Asked) → RightScratch a → let s = (runChecked (begin n m (M .ops)) asks) .now in
+    -- so a call lent as the session was made is refused before its own tests only for its scratch
+    pub run-unchecked : length lits ≡ literals → (asks : List Lent) (a : Asked) → RightScratch a → let s = (runChecked (begin n m (M .ops)) asks) .now in
         entered n m M lits literals ends a s ≡ call n m (M .ops) s (asked a)
     run-unchecked el asks a z = unchecked n m M lits literals ends L a _ (good-memory n m M lits literals ends L el em g a z _ (run-good asks))

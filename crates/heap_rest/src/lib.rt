@@ -4,12 +4,112 @@ ghost use Prim.Native.Nat.{_≤_};
 ghost use lib.ListN.{length};
 ghost use Rattle.lit.specs.Numbers as number;
 ghost use Rattle.formula.specs.Good.{GoodClauses};
+ghost use Rattle.trail.specs.Trail.{freshTrail};
+ghost use Rattle.trail.specs.Memory.{Lengths, trailOf};
+ghost use Rattle.vsids.specs.Vsids.{vsidsOf};
+ghost use Rattle.vsids.specs.Vsids as vsids-spec;
 ghost use Rattle.forms.specs.Forms.{vsids};
 ghost use Rattle.sheet.specs.Sheet as spec;
 ghost use Rattle.sheet.specs.Running.{Room, Ended};
+use heap_calls::HeapState;
+use heap_run::HeapPlace;
 use lit::NONE;
 use lit::UNASSIGNED;
 use sheet::Place;
+
+// The states of a fresh session in slices of one length.
+fn start(
+    values: &mut [u8],
+    levels: &mut [u32],
+    reasons: &mut [u32],
+    trail: &mut [u32],
+    opened: &mut [u32],
+    activity: &mut [f64],
+    heap: &mut [u32],
+    indices: &mut [u32],
+    decision: &mut [bool],
+) -> HeapState
+    requires { ⌜ Lengths (length (now values)) (now values) (now levels) (now reasons) (now trail) (now opened) ⌝ }
+    requires { ⌜ length (now activity) ≤ number.maxVars ⌝ }
+    requires { ⌜ (length (now heap) ≡ length (now activity)) × ((length (now indices) ≡ length (now activity)) × (length (now decision) ≡ length (now activity))) ⌝ }
+    ensures { λ r. ⌜ trailOf (now (values .exit)) (now (levels .exit)) (now (reasons .exit)) (now (trail .exit)) (now (opened .exit)) (r .trail) ≡ freshTrail (length (now (values .entry))) ⌝ }
+    ensures { λ r. ⌜ vsidsOf (now (activity .exit)) (now (heap .exit)) (now (indices .exit)) (now (decision .exit)) (r .vsids) ≡ vsids-spec.new (length (now (activity .entry))) ⌝ }
+{
+    let t = trail::new_trail(values, levels, reasons, trail, opened);
+    let h = vsids::new(activity, heap, indices, decision);
+    HeapState { trail: t, vsids: h }
+}
+
+// Does the lines of a session from a fresh one on and answers them, and gives the place behind the answers.
+fn heap_session(
+    sheet: &[u8],
+    out: &mut [u8],
+    n: u32,
+    lits: &[u32],
+    ends: &[u32],
+    values: &mut [u8],
+    levels: &mut [u32],
+    reasons: &mut [u32],
+    trail: &mut [u32],
+    opened: &mut [u32],
+    activity: &mut [f64],
+    heap: &mut [u32],
+    indices: &mut [u32],
+    decision: &mut [bool],
+    vars: &mut [u32],
+    p: Place,
+) -> usize
+    requires { ⌜ Room (now sheet) p (now out) × (n ≤ number.maxVars) × GoodClauses n (now lits) (now ends) ⌝ }
+    requires { ⌜ Lengths n (now values) (now levels) (now reasons) (now trail) (now opened) ⌝ }
+    requires { ⌜ (length (now activity) ≡ n) × (length (now heap) ≡ n) × (length (now indices) ≡ n) × (length (now decision) ≡ n) ⌝ }
+    requires { ⌜ length (now vars) ≡ number.maxGroup ⌝ }
+    ensures { λ r. ⌜ Ended (now (sheet .entry)) p (spec.opened vsids n (now (lits .entry)) (now (ends .entry))) (now (out .entry)) r (now (out .exit)) ⌝ }
+{
+    let s = start(
+        values,
+        levels,
+        reasons,
+        trail,
+        opened,
+        activity,
+        heap,
+        indices,
+        decision,
+    );
+    if !heap_mode::check_state(
+        ends.len() as u32,
+        values,
+        levels,
+        reasons,
+        trail,
+        opened,
+        activity,
+        heap,
+        indices,
+        decision,
+        s,
+    ) {
+        return p.at;
+    }
+    heap_run::heap_lines(
+        sheet,
+        out,
+        n,
+        lits,
+        ends,
+        values,
+        levels,
+        reasons,
+        trail,
+        opened,
+        activity,
+        heap,
+        indices,
+        decision,
+        vars,
+        HeapPlace { place: p, state: s },
+    )
+}
 
 // Does the lines from a place on, and gives the place behind their answers. The positions are the heap's.
 pub fn rest(
@@ -34,7 +134,7 @@ pub fn rest(
     let mut heap = [NONE; 2048];
     let mut decision = [true; 2048];
     let mut vars = [NONE; 2048];
-    heap_run::heap_session(
+    heap_session(
         sheet,
         out,
         n,

@@ -1,3 +1,2 @@
--- The lines of a session in heap mode, and the fresh session that they start from.
+-- The lines of a session in heap mode.
 pub mod Lines
-pub mod Start

@@ -155,7 +155,7 @@ unfoldable pub bumpVecOfVars : List ℕ → Vmtf → Vmtf
 bumpVecOfVars vs l = moveAll (byStamp (l .ts) vs) l
 
 -- `insert`, of a variable that becomes unassigned too: nothing changes. So going back leaves search where it is
-unfoldable pub insert : ℕ → Vmtf → Vmtf
+abbrev pub insert : ℕ → Vmtf → Vmtf
 insert v l = l
 
 -- an open variable is unassigned

@@ -63,3 +63,19 @@ fn the_documents_examples_answer_as_shown() {
         assert_eq!(String::from_utf8_lossy(&answers[..len]), String::from_utf8_lossy(&shown));
     }
 }
+
+/// The sample that the program `replay` is held to: sheets that end in a byte 0, and the answers with an empty line behind each.
+#[test]
+fn the_replayed_sample_is_the_references_own() {
+    let sheets = include_bytes!("../../../../crates/replay/stdin");
+    let expected = include_bytes!("../../../../crates/replay/stdout");
+    let mut printed = Vec::new();
+    for sheet in sheets[..sheets.len() - 1].split(|&byte| byte == 0) {
+        let mut answers = vec![0; 65_536];
+        let len = run(sheet, &mut answers) as usize;
+        printed.extend_from_slice(&answers[..len]);
+        printed.push(b'\n');
+    }
+    assert_eq!(sheets.last(), Some(&0));
+    assert_eq!(printed, expected);
+}

@@ -1,13 +1,13 @@
--- `heap_run::heap_session` meets its contract: a fresh session is good, so the check lets it through, and its lines are answered.
+-- `heap_rest::heap_session` meets its contract: a fresh session is good, so the check lets it through, and its lines are answered.
 use mathlib.Core.Path.{sym, subst, _∙_}
 use mathlib.Core.Bool.{true≢false}
 use native.Mathlib.Omega.{arith}
 use borrow.Author.Tests.{not-true}
 use Rattle.sheet.specs.Sheet.{Stage}
 use Rattle.sheet.specs.Running.{Ended}
-use Rattle.heap_run.specs.Start.{started-opened, started-good, started-sized, started-lengths, started-passes}
-use Rattle.heap_run.proofs.heap_session.Statement.{statement}
-use Rattle.heap_run.proofs.heap_session.Tie as tie
+use Rattle.heap_rest.specs.Start.{started-opened, started-good, started-sized, started-lengths, started-passes}
+use Rattle.heap_rest.proofs.heap_session.Statement.{statement}
+use Rattle.heap_rest.proofs.heap_session.Tie as tie
 
 start-requires : tie.Need-start-requires
 start-requires c κs =

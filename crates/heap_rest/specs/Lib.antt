@@ -1,0 +1,2 @@
+-- The session that the first line behind the clause lines meets, in heap mode.
+pub mod Start
