@@ -85,14 +85,17 @@ module _ (heap : Bool) (n : ℕ) where
   unfolding need
   first-opened few sheet count end w e = rw (le-leb n maxVars few) (put-more w (record { buffer = e .buffer; place = e .count }))
 
--- the clause lines answered, what ends the run from the session on ends it from the first of them on
+-- where no clause line comes next, what ends the run from the session on ends it
+module _ (mode : Mode) {n r : ℕ} {sheet lits ends out out′ : List ℕ} {p : Place} where
+  pub session-ended : nextClause (linesFrom sheet (p .from)) ≡ false → Ended sheet p (opened mode n lits ends) out r out′ → Ended sheet p (reading mode n lits ends) out r out′
+  session-ended over x =
+      let e = sym (section-over (p .line) mode n lits ends (linesFrom sheet (p .from)) over) in
+      record { buffer = x .buffer ∙ ap (λ (a : List ℕ). written (p .at) a out) e; count = x .count ∙ ap (λ (a : List ℕ). p .at + length a) e }
+
+-- the clause lines answered, it ends it from the first of them on
 pub section-ended : (mode : Mode) {n r : ℕ} {sheet out lits ends out′ lits′ ends′ out″ : List ℕ} {s u : Section} → SoFar n sheet s out lits ends u out′ lits′ ends′
     → nextClause (linesFrom sheet (u .place .from)) ≡ false → Ended sheet (u .place) (opened mode n (take (u .literals) lits′) (take (u .clauses) ends′)) out′ r out″
     → Ended sheet (s .place) (stageOf mode n lits ends s) out r out″
-section-ended mode {n} {sheet = sheet} {out′ = out′} {lits′} {ends′} {u = u} so over x =
-    let p = u .place in
-    let e = sym (section-over (p .line) mode n (take (u .literals) lits′) (take (u .clauses) ends′) (linesFrom sheet (p .from)) over) in
-    record {
-      buffer = x .buffer ∙ (ap (λ (a : List ℕ). written (p .at) a out′) e ∙ so .end mode .buffer);
-      count = x .count ∙ (ap (λ (a : List ℕ). p .at + length a) e ∙ so .end mode .count);
-    }
+section-ended mode so over x =
+    let y = session-ended mode over x in
+    record { buffer = y .buffer ∙ so .end mode .buffer; count = y .count ∙ so .end mode .count }

@@ -24,16 +24,36 @@ use lit::MAX_SHEET;
 use lit::MAX_VARS;
 use lit::NONE;
 use lit::SHORT_BUFFER;
-use lit::UNASSIGNED;
 use sheet::Place;
 use sheet::answer;
 use sheet::behind;
 use sheet::clauses::Section;
 use sheet::clauses::clause_lines;
+use sheet::clauses::next_is_clause;
 use text::NEWLINE;
 
-// The lines behind the first: the clause lines, then the session's, in heap or in list mode.
-fn lines_behind(
+// The session's lines, in heap or in list mode.
+fn session_lines(
+    sheet: &[u8],
+    out: &mut [u8],
+    positions: &mut [u32],
+    heap: bool,
+    n: u32,
+    lits: &[u32],
+    ends: &[u32],
+    p: Place,
+) -> usize
+    requires { ⌜ Room (now sheet) p (now out) × (n ≤ number.maxVars) × GoodClauses n (now lits) (now ends) × (length (now positions) ≡ number.maxVars) ⌝ }
+    ensures { λ r. ⌜ Ended (now (sheet .entry)) p (opened (modeOf heap) n (now (lits .entry)) (now (ends .entry))) (now (out .entry)) r (now (out .exit)) ⌝ }
+{
+    if heap {
+        return heap_rest::rest(sheet, out, positions, n, lits, ends, p);
+    }
+    list_rest::rest(sheet, out, n, lits, ends, p)
+}
+
+// The lines behind the first where clause lines come next: these, then the session's.
+fn clause_lines_first(
     sheet: &[u8],
     out: &mut [u8],
     positions: &mut [u32],
@@ -61,18 +81,35 @@ fn lines_behind(
     let literals = s.literals as usize;
     let clauses = s.clauses as usize;
     let q = s.place;
-    if heap {
-        return heap_rest::rest(
-            sheet,
-            out,
-            positions,
-            n,
-            &lits[..literals],
-            &ends[..clauses],
-            q,
-        );
+    session_lines(
+        sheet,
+        out,
+        positions,
+        heap,
+        n,
+        &lits[..literals],
+        &ends[..clauses],
+        q,
+    )
+}
+
+// The lines behind the first, in heap or in list mode. Without clause lines the slices for clauses are not set up.
+fn lines_behind(
+    sheet: &[u8],
+    out: &mut [u8],
+    positions: &mut [u32],
+    heap: bool,
+    n: u32,
+    p: Place,
+) -> usize
+    requires { ⌜ Room (now sheet) p (now out) × (n ≤ number.maxVars) × (length (now positions) ≡ number.maxVars) ⌝ }
+    ensures { λ r. ⌜ Ended (now (sheet .entry)) p (reading (modeOf heap) n [] []) (now (out .entry)) r (now (out .exit)) ⌝ }
+{
+    if next_is_clause(sheet, p) {
+        return clause_lines_first(sheet, out, positions, heap, n, p);
     }
-    list_rest::rest(sheet, out, n, &lits[..literals], &ends[..clauses], q)
+    let none = [0u32; 0];
+    session_lines(sheet, out, positions, heap, n, &none, &none, p)
 }
 
 // Answers a first line that has its form and ends at `end`: refusal 4, or the session with the lines behind it.

@@ -111,8 +111,54 @@ fn heap_session(
     )
 }
 
-// Does the lines from a place on, and gives the place behind their answers. The positions are the heap's.
-pub fn rest(
+// At most so many variables are few: their session is made in short arrays, since setting up long ones costs more than a short run.
+const FEW: u32 = 256;
+
+// The rest with few variables. The positions are the heap's.
+fn few(
+    sheet: &[u8],
+    out: &mut [u8],
+    positions: &mut [u32],
+    n: u32,
+    lits: &[u32],
+    ends: &[u32],
+    p: Place,
+) -> usize
+    requires { ⌜ Room (now sheet) p (now out) × (n ≤ 256) × GoodClauses n (now lits) (now ends) × (length (now positions) ≡ number.maxVars) ⌝ }
+    ensures { λ r. ⌜ Ended (now (sheet .entry)) p (spec.opened vsids n (now (lits .entry)) (now (ends .entry))) (now (out .entry)) r (now (out .exit)) ⌝ }
+{
+    let k = n as usize;
+    let mut values = [UNASSIGNED; FEW as usize];
+    let mut levels = [NONE; FEW as usize];
+    let mut reasons = [NONE; FEW as usize];
+    let mut trail = [NONE; FEW as usize];
+    let mut opened = [NONE; FEW as usize];
+    let mut activity = [0.0; FEW as usize];
+    let mut heap = [NONE; FEW as usize];
+    let mut decision = [true; FEW as usize];
+    let mut vars = [NONE; 2048];
+    heap_session(
+        sheet,
+        out,
+        n,
+        lits,
+        ends,
+        &mut values[..k],
+        &mut levels[..k],
+        &mut reasons[..k],
+        &mut trail[..k],
+        &mut opened[..k],
+        &mut activity[..k],
+        &mut heap[..k],
+        &mut positions[..k],
+        &mut decision[..k],
+        &mut vars,
+        p,
+    )
+}
+
+// The rest with any number of variables.
+fn many(
     sheet: &[u8],
     out: &mut [u8],
     positions: &mut [u32],
@@ -152,4 +198,23 @@ pub fn rest(
         &mut vars,
         p,
     )
+}
+
+// Does the lines from a place on, and gives the place behind their answers. The positions are the heap's.
+pub fn rest(
+    sheet: &[u8],
+    out: &mut [u8],
+    positions: &mut [u32],
+    n: u32,
+    lits: &[u32],
+    ends: &[u32],
+    p: Place,
+) -> usize
+    requires { ⌜ Room (now sheet) p (now out) × (n ≤ number.maxVars) × GoodClauses n (now lits) (now ends) × (length (now positions) ≡ number.maxVars) ⌝ }
+    ensures { λ r. ⌜ Ended (now (sheet .entry)) p (spec.opened vsids n (now (lits .entry)) (now (ends .entry))) (now (out .entry)) r (now (out .exit)) ⌝ }
+{
+    if n <= FEW {
+        return few(sheet, out, positions, n, lits, ends, p);
+    }
+    many(sheet, out, positions, n, lits, ends, p)
 }

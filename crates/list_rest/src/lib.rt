@@ -132,8 +132,49 @@ fn list_session(
     )
 }
 
-// Does the lines from a place on, and gives the place behind their answers.
-pub fn rest(sheet: &[u8], out: &mut [u8], n: u32, lits: &[u32], ends: &[u32], p: Place) -> usize
+// At most so many variables are few: their session is made in short arrays, since setting up long ones costs more than a short run.
+const FEW: u32 = 256;
+
+// The rest with few variables.
+fn few(sheet: &[u8], out: &mut [u8], n: u32, lits: &[u32], ends: &[u32], p: Place) -> usize
+    requires { ⌜ Room (now sheet) p (now out) × (n ≤ 256) × GoodClauses n (now lits) (now ends) ⌝ }
+    ensures { λ r. ⌜ Ended (now (sheet .entry)) p (spec.opened vmtf n (now (lits .entry)) (now (ends .entry))) (now (out .entry)) r (now (out .exit)) ⌝ }
+{
+    let k = n as usize;
+    let mut values = [UNASSIGNED; FEW as usize];
+    let mut levels = [NONE; FEW as usize];
+    let mut reasons = [NONE; FEW as usize];
+    let mut trail = [NONE; FEW as usize];
+    let mut opened = [NONE; FEW as usize];
+    let mut next = [NONE; FEW as usize];
+    let mut prev = [NONE; FEW as usize];
+    let mut ts = [0u64; FEW as usize];
+    let mut vars = [NONE; 2048];
+    let mut stamps = [0u64; 2048];
+    let mut order = [NONE; 2048];
+    list_session(
+        sheet,
+        out,
+        n,
+        lits,
+        ends,
+        &mut values[..k],
+        &mut levels[..k],
+        &mut reasons[..k],
+        &mut trail[..k],
+        &mut opened[..k],
+        &mut next[..k],
+        &mut prev[..k],
+        &mut ts[..k],
+        &mut vars,
+        &mut stamps,
+        &mut order,
+        p,
+    )
+}
+
+// The rest with any number of variables.
+fn many(sheet: &[u8], out: &mut [u8], n: u32, lits: &[u32], ends: &[u32], p: Place) -> usize
     requires { ⌜ Room (now sheet) p (now out) × (n ≤ number.maxVars) × GoodClauses n (now lits) (now ends) ⌝ }
     ensures { λ r. ⌜ Ended (now (sheet .entry)) p (spec.opened vmtf n (now (lits .entry)) (now (ends .entry))) (now (out .entry)) r (now (out .exit)) ⌝ }
 {
@@ -168,4 +209,15 @@ pub fn rest(sheet: &[u8], out: &mut [u8], n: u32, lits: &[u32], ends: &[u32], p:
         &mut order,
         p,
     )
+}
+
+// Does the lines from a place on, and gives the place behind their answers.
+pub fn rest(sheet: &[u8], out: &mut [u8], n: u32, lits: &[u32], ends: &[u32], p: Place) -> usize
+    requires { ⌜ Room (now sheet) p (now out) × (n ≤ number.maxVars) × GoodClauses n (now lits) (now ends) ⌝ }
+    ensures { λ r. ⌜ Ended (now (sheet .entry)) p (spec.opened vmtf n (now (lits .entry)) (now (ends .entry))) (now (out .entry)) r (now (out .exit)) ⌝ }
+{
+    if n <= FEW {
+        return few(sheet, out, n, lits, ends, p);
+    }
+    many(sheet, out, n, lits, ends, p)
 }

@@ -91,7 +91,7 @@ fn clause_line(
 }
 
 // Whether a clause line comes next.
-fn next_is_clause(sheet: &[u8], p: Place) -> bool
+pub fn next_is_clause(sheet: &[u8], p: Place) -> bool
     requires { ⌜ ((out : List ℕ) × Room (now sheet) p out) ⌝ }
     ensures { λ r. ⌜ r ≡ nextClause (linesFrom (now (sheet .entry)) (p .from)) ⌝ }
 {

@@ -12,7 +12,7 @@ use borrow.Author.Tests.{ne-eqb, le-leb, lt-ltb, le-ltb, ltb-true, ltb-false, le
 use borrow.Author.Tests as tests
 use lib.Dec.{eqb, leb, ltb}
 use lib.ListN.{length, getD, set, take, drop, length-append, length-set, List·getD-append}
-use lib.Seq.{append-snoc, sets, sets-eq}
+use lib.Seq.{append-snoc, sets, sets-eq, set-comm}
 use Rattle.laws.specs.Tests.{true-or-false, and-left, and-right, and-both}
 use Rattle.lit.specs.Numbers.{NONE}
 use Rattle.text.specs.Text.{newline, splitFrom, split, butLast, lines, occurs, find, all, isDigit, decimal, plain, number, digitsBy, digits, written}
@@ -146,6 +146,14 @@ pub written-none : (at : ℕ) (bs l : List ℕ) → bs ≡ [] → written at bs 
 unfolding written
 written-none at bs l e = rw e
 
+-- the last byte may be written first
+written-last : (at x : ℕ) (bs l : List ℕ) → written at (bs ++ (x ∷ [])) l ≡ written at bs (set l (at + length bs) x)
+unfolding written
+written-last at x [] l = let e : at + 0 ≡ at = omega arith in rw e
+written-last at x (b ∷ bs) l =
+    let e : at + 1 + length bs ≡ at + length (b ∷ bs) = omega arith in
+    rw (set-comm l (at + length (b ∷ bs)) at x b (λ q. omega arith)) (rw e at (written-last (at + 1) x bs (set l at b)))
+
 -- the digits of a number
 tenth : (k n : ℕ) → n < 10 ^ suc k → n / 10 < 10 ^ k
 tenth k n h = omega (arith, pow-suc 10 k)
@@ -171,33 +179,26 @@ digits-more k n h = rw (le-ltb n 10 h)
 pub digits-step : (n : ℕ) → 10 ≤ n → n < 10 ^ 10 → digits n ≡ digits (n / 10) ++ ((48 + n % 10) ∷ [])
 digits-step n l h = digits-more 9 n l ∙ rw (digits-enough 8 9 (n / 10) (omega arith) (omega arith))
 
--- the digits before the last
-unfoldable pub front : ℕ → List ℕ
-front n = cond (ltb n 10) [] (digits (n / 10))
+pub digits-length : (n : ℕ) → 10 ≤ n → n < 10 ^ 10 → length (digits n) ≡ length (digits (n / 10)) + 1
+digits-length n l h = ap length (digits-step n l h) ∙ length-append (digits (n / 10)) ((48 + n % 10) ∷ [])
 
-pub front-more : (n : ℕ) → 10 ≤ n → front n ≡ digits (n / 10)
-unfolding front
-front-more n h = rw (le-ltb n 10 h)
+-- how many they are
+pub digits-count : (k n : ℕ) → 10 ^ suc k ≤ n → n < 10 ^ suc (suc k) → n < 10 ^ 10 → length (digits n) ≡ suc (suc k)
+digits-count zero n l u h =
+    let e : length (digits (n / 10)) ≡ 1 = ap length (digits-one (n / 10) (omega arith)) in
+    omega (arith, digits-length n (omega arith) h)
+digits-count (suc k) n l u h =
+    let e : length (digits (n / 10)) ≡ suc (suc k) = digits-count k (n / 10) (omega (arith, pow-suc 10 (suc k))) (tenth (suc (suc k)) n u) (omega arith) in
+    omega (arith, digits-length n (omega (arith, pow-suc 10 (suc k), pow-suc 10 k)) h)
 
-pub front-none : (n : ℕ) → n < 10 → front n ≡ []
-unfolding front
-front-none n h = rw (lt-ltb n 10 h)
+-- the last digit, written before the others
+pub digits-last-first : (at n : ℕ) (l : List ℕ) → 10 ≤ n → n < 10 ^ 10 → written at (digits n) l ≡ written at (digits (n / 10)) (set l (at + length (digits (n / 10))) (48 + n % 10))
+digits-last-first at n l h u = rw (digits-step n h u) (written-last at (48 + n % 10) (digits (n / 10)) l)
 
-digits-last : (n : ℕ) → n < 10 ^ 10 → digits n ≡ front n ++ ((48 + n % 10) ∷ [])
-digits-last n h =
-    true-or-false (ltb n 10)
-    (λ e. (let l : n < 10 = ltb-true n 10 e in
-    let r : n % 10 ≡ n = omega arith in
-    rw (front-none n l, r) (digits-one n l)))
-    (λ e. (let l : 10 ≤ n = ltb-false n 10 e in rw (front-more n l) (digits-step n l h)))
-
-pub front-length : (n : ℕ) → n < 10 ^ 10 → length (digits n) ≡ length (front n) + 1
-front-length n h = ap length (digits-last n h) ∙ length-append (front n) ((48 + n % 10) ∷ [])
-
--- the last digit, written behind the others
-pub put-last : (at n : ℕ) (l : List ℕ) → n < 10 ^ 10 → {r : List ℕ} {from : ℕ} → r ≡ written at (front n) l → from ≡ at + length (front n) → set r from (48 + n % 10) ≡ written at (digits n) l
+-- a digit alone
+pub put-one : (at n : ℕ) (l : List ℕ) → n < 10 → set l at (48 + n) ≡ written at (digits n) l
 unfolding written
-put-last at n l h {r} {from} e f = rw (e, f, digits-last n h, written-append at (front n) ((48 + n % 10) ∷ []) l)
+put-one at n l h = rw (digits-one n h)
 
 pub digits-short : (k j n : ℕ) → n < 10 ^ suc k → length (digitsBy j n) ≤ suc k
 unfolding digitsBy

@@ -119,15 +119,53 @@ pub fn double(bits: u64) -> f64
     f64::from_bits(bits)
 }
 
-// Writes the decimal digits of a number from a place on, and gives the place behind them.
+// How many decimal digits a number has.
+fn digit_count(v: u32) -> usize
+    ensures { λ r. ⌜ r ≡ length (spec.digits v) ⌝ }
+{
+    if v < 10 {
+        return 1;
+    }
+    if v < 100 {
+        return 2;
+    }
+    if v < 1000 {
+        return 3;
+    }
+    if v < 10000 {
+        return 4;
+    }
+    if v < 100000 {
+        return 5;
+    }
+    if v < 1000000 {
+        return 6;
+    }
+    if v < 10000000 {
+        return 7;
+    }
+    if v < 100000000 {
+        return 8;
+    }
+    if v < 1000000000 {
+        return 9;
+    }
+    10
+}
+
+// Writes the decimal digits of a number from a place on, the last one first, and gives the place behind them.
 pub fn put_number(out: &mut [u8], at: usize, v: u32) -> usize
     requires { ⌜ at + length (spec.digits v) ≤ length (now out) ⌝ }
     ensures { λ r. ⌜ (now (out .exit) ≡ spec.written at (spec.digits v) (now (out .entry))) × (r ≡ at + length (spec.digits v)) ⌝ }
 {
-    let mut from = at;
-    if v >= 10 {
-        from = put_number(out, at, v / 10);
+    let end = at + digit_count(v);
+    let mut left = v;
+    let mut i = end;
+    while left >= 10 {
+        i -= 1;
+        out[i] = 48 + (left % 10) as u8;
+        left /= 10;
     }
-    out[from] = 48 + (v % 10) as u8;
-    from + 1
+    out[at] = 48 + left as u8;
+    end
 }

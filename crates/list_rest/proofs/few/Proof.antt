@@ -1,9 +1,10 @@
--- `list_rest::rest` meets its contract: the parts of the local arrays that are lent have length n.
+-- `list_rest::few` meets its contract: the parts of the local arrays that are lent have length n.
 use mathlib.Core.Path.{refl, sym}
+use native.Mathlib.Omega.{arith}
 use lib.Seq.{length-take-le}
 use borrow.Author.Needs.{needs}
-use Rattle.list_rest.proofs.rest.Statement.{statement}
-use Rattle.list_rest.proofs.rest.Tie as tie
+use Rattle.list_rest.proofs.few.Statement.{statement}
+use Rattle.list_rest.proofs.few.Tie as tie
 
 slice-aggregate-list-session : tie.Need-slice-aggregate-list-session
 slice-aggregate-list-session c = sym (length-take-le (c .before .before .before .before .before .before .args .n) _ (c .before .before .before .before .before .before .pre .1))
@@ -34,7 +35,7 @@ list-session-requires c κs =
     let s = c .before .before .before .before .before .before .before .before .before .before .before .before .before .before .before .before in
     let n = s .args .n in
     let small = s .pre .1 in (
-      s .pre,
+      (s .pre .0, omega (arith, small), s .pre .2),
       (
         (
           record {
@@ -52,8 +53,8 @@ list-session-requires c κs =
       ),
     )
 
-pub rest-spec : {M : Type 1} → statement M
-rest-spec =
+pub few-spec : {M : Type 1} → statement M
+few-spec =
     tie.close
     (tie.spec
     (λ c. search needs)

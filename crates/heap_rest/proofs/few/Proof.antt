@@ -1,10 +1,10 @@
--- `heap_rest::rest` meets its contract: the parts of the local arrays and of the positions that are lent have length n.
+-- `heap_rest::few` meets its contract: the parts of the local arrays and of the positions that are lent have length n.
 use mathlib.Core.Path.{refl, sym}
 use native.Mathlib.Omega.{arith}
 use lib.Seq.{length-take-le}
 use borrow.Author.Needs.{needs}
-use Rattle.heap_rest.proofs.rest.Statement.{statement}
-use Rattle.heap_rest.proofs.rest.Tie as tie
+use Rattle.heap_rest.proofs.few.Statement.{statement}
+use Rattle.heap_rest.proofs.few.Tie as tie
 
 slice-aggregate-heap-session : tie.Need-slice-aggregate-heap-session
 slice-aggregate-heap-session c = sym (length-take-le (c .before .before .before .before .before .before .before .args .n) _ (c .before .before .before .before .before .before .before .pre .1))
@@ -38,7 +38,7 @@ heap-session-requires c κs =
     let s = c .before .before .before .before .before .before .before .before .before .before .before .before .before .before .before .before in
     let n = s .args .n in
     let small = s .pre .1 in (
-      (s .pre .0, small, s .pre .2),
+      (s .pre .0, omega (arith, small), s .pre .2),
       (
         record {
           values-long = length-take-le n _ small;
@@ -59,8 +59,8 @@ heap-session-requires c κs =
       ),
     )
 
-pub rest-spec : {M : Type 1} → statement M
-rest-spec =
+pub few-spec : {M : Type 1} → statement M
+few-spec =
     tie.close
     (tie.spec
     (λ c. search needs)

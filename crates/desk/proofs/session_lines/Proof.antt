@@ -1,0 +1,30 @@
+-- `desk::session_lines` meets its contract: the mode tells whose lines they are.
+use mathlib.Core.Path.{_≡_}
+use mathlib.Core.Bool.{true, false}
+use borrow.Author.Needs.{needs}
+use Rattle.desk.proofs.session_lines.Statement.{statement}
+use Rattle.desk.proofs.session_lines.Tie as tie
+
+returns : tie.Need-returns
+returns c =
+    let s = c .before .before .before .before .before .before .before .before .before .before .before .before .before in
+    let heap : s .args .heap ≡ true = search needs in
+    rw heap (c .before .before .before .before .rest .ensures)
+
+returns-2 : tie.Need-returns-2
+returns-2 c =
+    let s = c .before .before .before .before .before .before .before .before .before .before in
+    let list : s .args .heap ≡ false = search needs in
+    rw list (c .before .before .rest2 .ensures)
+
+pub session-lines-spec : {M : Type 1} → statement M
+session-lines-spec =
+    tie.close
+    (tie.spec
+    (λ c κs. search needs)
+    (λ c. search needs)
+    (λ c. search needs)
+    returns
+    (λ c κs. search needs)
+    (λ c. search needs)
+    returns-2)

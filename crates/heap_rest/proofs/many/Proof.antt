@@ -1,0 +1,88 @@
+-- `heap_rest::many` meets its contract: the parts of the local arrays and of the positions that are lent have length n.
+use mathlib.Core.Path.{refl, sym}
+use native.Mathlib.Omega.{arith}
+use lib.Seq.{length-take-le}
+use borrow.Author.Needs.{needs}
+use Rattle.heap_rest.proofs.many.Statement.{statement}
+use Rattle.heap_rest.proofs.many.Tie as tie
+
+slice-aggregate-heap-session : tie.Need-slice-aggregate-heap-session
+slice-aggregate-heap-session c = sym (length-take-le (c .before .before .before .before .before .before .before .args .n) _ (c .before .before .before .before .before .before .before .pre .1))
+
+slice-aggregate-heap-session-2 : tie.Need-slice-aggregate-heap-session-2
+slice-aggregate-heap-session-2 c = sym (length-take-le (c .before .before .before .before .before .before .before .before .args .n) _ (c .before .before .before .before .before .before .before .before .pre .1))
+
+slice-aggregate-heap-session-3 : tie.Need-slice-aggregate-heap-session-3
+slice-aggregate-heap-session-3 c = sym (length-take-le (c .before .before .before .before .before .before .before .before .before .args .n) _ (c .before .before .before .before .before .before .before .before .before .pre .1))
+
+slice-aggregate-heap-session-4 : tie.Need-slice-aggregate-heap-session-4
+slice-aggregate-heap-session-4 c = sym (length-take-le (c .before .before .before .before .before .before .before .before .before .before .args .n) _ (c .before .before .before .before .before .before .before .before .before .before .pre .1))
+
+slice-aggregate-heap-session-5 : tie.Need-slice-aggregate-heap-session-5
+slice-aggregate-heap-session-5 c = sym (length-take-le (c .before .before .before .before .before .before .before .before .before .before .before .args .n) _ (c .before .before .before .before .before .before .before .before .before .before .before .pre .1))
+
+slice-aggregate-heap-session-6 : tie.Need-slice-aggregate-heap-session-6
+slice-aggregate-heap-session-6 c = sym (length-take-le (c .before .before .before .before .before .before .before .before .before .before .before .before .args .n) _ (c .before .before .before .before .before .before .before .before .before .before .before .before .pre .1))
+
+slice-aggregate-heap-session-7 : tie.Need-slice-aggregate-heap-session-7
+slice-aggregate-heap-session-7 c = sym (length-take-le (c .before .before .before .before .before .before .before .before .before .before .before .before .before .args .n) _ (c .before .before .before .before .before .before .before .before .before .before .before .before .before .pre .1))
+
+slice-aggregate-heap-session-8 : tie.Need-slice-aggregate-heap-session-8
+slice-aggregate-heap-session-8 c = let s = c .before .before .before .before .before .before .before .before .before .before .before .before .before .before in sym (length-take-le (s .args .n) (s .args .positions .now) (omega (arith, s .pre .1, s .pre .3)))
+
+slice-aggregate-heap-session-9 : tie.Need-slice-aggregate-heap-session-9
+slice-aggregate-heap-session-9 c = sym (length-take-le (c .before .before .before .before .before .before .before .before .before .before .before .before .before .before .before .args .n) _ (c .before .before .before .before .before .before .before .before .before .before .before .before .before .before .before .pre .1))
+
+heap-session-requires : tie.Need-heap-session-requires
+heap-session-requires c κs =
+    let s = c .before .before .before .before .before .before .before .before .before .before .before .before .before .before .before .before in
+    let n = s .args .n in
+    let small = s .pre .1 in (
+      (s .pre .0, small, s .pre .2),
+      (
+        record {
+          values-long = length-take-le n _ small;
+          levels-long = length-take-le n _ small;
+          reasons-long = length-take-le n _ small;
+          trail-long = length-take-le n _ small;
+          opened-long = length-take-le n _ small;
+        },
+        (
+          (
+            length-take-le n _ small,
+            length-take-le n _ small,
+            length-take-le n (s .args .positions .now) (omega (arith, small, s .pre .3)),
+            length-take-le n _ small,
+          ),
+          refl,
+        ),
+      ),
+    )
+
+pub many-spec : {M : Type 1} → statement M
+many-spec =
+    tie.close
+    (tie.spec
+    (λ c. search needs)
+    slice-aggregate-heap-session
+    (λ c. search needs)
+    slice-aggregate-heap-session-2
+    (λ c. search needs)
+    slice-aggregate-heap-session-3
+    (λ c. search needs)
+    slice-aggregate-heap-session-4
+    (λ c. search needs)
+    slice-aggregate-heap-session-5
+    (λ c. search needs)
+    slice-aggregate-heap-session-6
+    (λ c. search needs)
+    slice-aggregate-heap-session-7
+    (λ c. search needs)
+    slice-aggregate-heap-session-8
+    (λ c. search needs)
+    slice-aggregate-heap-session-9
+    (λ c. search needs)
+    heap-session-requires
+    (λ c. search needs)
+    (λ c. search needs)
+    (λ c. search needs))
