@@ -34,5 +34,5 @@ int main(int argc, char **argv)
         fprintf(stderr, "%s: could not be read\n", argv[1]);
         return 1;
     }
-    return print(sigvort_run(sheet, len, answers, sizeof answers)) ? 0 : 1;
+    return print(sigvort_run(sheet, len, answers, sizeof answers)) && fflush(stdout) == 0 ? 0 : 1;
 }

@@ -27,7 +27,7 @@ extern "C" {
 
    Bytes behind the sheet's last newline are ignored. A first line that is refused gets its answer and ends the run.
    The pointers are not null, even for a length of 0, and the two ranges do not overlap. Nothing is kept between calls and nothing
-   is allocated; calls on different buffers may run at the same time. */
+   is allocated; calls on different buffers may run at the same time. A call takes some 160 KB of stack. */
 uint32_t sigvort_run(const uint8_t *sheet, size_t sheet_len, uint8_t *answers, size_t answers_len);
 
 #ifdef __cplusplus

@@ -1,13 +1,13 @@
 -- Term 3 for a sheet's answers. By induction over the lines: a line with a call is a step of the book's run, any other leaves it.
 use Prim.Native.Nat.{ℕ, _+_, _≤_}
-use mathlib.Core.Path.{_≡_, refl, ap, subst, _∙_}
+use mathlib.Core.Path.{_≡_, refl, ap, _∙_}
 use mathlib.Core.Bool.{true, false}
 use mathlib.Core.Option.{Option, none, some}
 use mathlib.Core.List.{List, [], _∷_, _++_}
 use lib.ListN.{length}
 use lib.Dec.{leb}
 use borrow.Author.Tests.{leb-true}
-use Rattle.lit.specs.Numbers.{maxVars, badLine}
+use Rattle.lit.specs.Numbers.{maxVars, badLine, manyVars}
 use Rattle.laws.specs.Tests.{true-or-false}
 use Rattle.formula.specs.Clauses.{clauseFits}
 use Rattle.formula.specs.Good.{GoodClauses, clauses-facts}
@@ -17,15 +17,12 @@ use Rattle.choosers.specs.List.{listOps}
 use Rattle.choosers.specs.Terms.{heap-term3, list-term3}
 use Rattle.book.specs.Calls.{Call}
 use Rattle.book.specs.Chooser.{Operations}
-use Rattle.book.specs.Session.{Result, done, refuse, status, reply, leaves, need, Session, call}
+use Rattle.book.specs.Session.{Result, done, refuse, status, reply, leaves, need, Session, fresh, call}
 use Rattle.book.specs.Claim.{Event, Run, begin, step, run, Term3}
-use Rattle.forms.specs.Forms.{Mode, vsids, vmtf, Opening, callIn, codesIn, beginsClause}
-use Rattle.sheet.specs.Sheet.{Stage, reading, inHeap, inList, called, staged, clauseWith, answerLine, answers, opening}
-use Rattle.sheet.specs.Claim.{before, callsIn, onto, told, rest, logged, ByTheBook, Right, over, clause, heap, list}
-
-abbrev IsRefused : Result Stage → Type 0
-IsRefused (done r s) = ⊥
-IsRefused (refuse k) = Unit {0}
+use Rattle.forms.specs.Forms.{Mode, vsids, vmtf, Opening, callIn, codesIn, beginsClause, firstIn}
+use Rattle.sheet.specs.Sheet.{Stage, reading, inHeap, inList, called, staged, clauseWith, turn, answerLine, answers, opening, answered}
+use Rattle.sheet.specs.ClauseLines.{section-over, clause-reply}
+use Rattle.sheet.specs.Claim.{before, callsIn, onto, told, rest, logged, ByTheBook, Right, over, clause, heap, list, Told, nothing, stopped, accepted}
 
 module _ (n m : ℕ) (O : Operations) (stage : Session n m O → Stage) where
   -- how a line of the session is answered
@@ -68,13 +65,13 @@ module _ (n m : ℕ) (O : Operations) (stage : Session n m O → Stage) where
       go none ih = ap (λ (bs : List ℕ). answerLine i badLine none ++ bs) (ih r (i + 1))
       go (some c) ih = let x = call n m O (r .now) c in ap (λ (bs : List ℕ). answerLine i (status x) (reply x) ++ bs) (ih (step n m O r c) (i + 1))
 
-  by-the-book : Answers → Term3 n m O → (i : ℕ) (ls : List (List ℕ)) → ByTheBook n m O stage i ls
+  by-the-book : Answers → Term3 n m O → (i : ℕ) (ls : List (List ℕ)) (start : Stage) → answers i start ls ≡ answers i (stage (fresh n m O)) ls → ByTheBook n m O start i ls
   unfolding begin
-  by-the-book a t i ls = record {
+  by-the-book a t i ls start same = record {
     events = eventsOf (begin n m O) ls;
     log = logs ls (begin n m O);
     claim = t (callsIn ls);
-    answers = tells a ls (begin n m O) i;
+    answers = same ∙ tells a ls (begin n m O) i;
   }
 
   -- what a line's result says of the session is said of the stage
@@ -118,35 +115,42 @@ module _ (mode : Mode) (n : ℕ) (small : n ≤ maxVars) where
       added : clauseFits n (length ends) (length lits) codes ≡ true → GoodClauses n (lits ++ codes) (withEnd lits ends codes)
       added e = clauses-facts n (lits ++ codes) (withEnd lits ends codes) .0 (fits-added n lits ends codes (clauses-facts n lits ends .1 g) ∙ e)
 
+  clause-answer : (i : ℕ) (lits ends line : List ℕ) (ls : List (List ℕ)) → beginsClause line ≡ true → let stage = reading mode n lits ends in let x = turn stage line in
+      answers i stage (line ∷ ls) ≡ answerLine i (status x) none ++ answers (i + 1) (leaves stage x) ls
+  unfolding answers
+  clause-answer i lits ends line ls e = rw (e, clause-reply mode n lits ends (codesIn line))
+
   -- the session's lines
   session-lines : (m : Mode) (i : ℕ) (lits ends line : List ℕ) (ls : List (List ℕ)) → GoodClauses n lits ends → beginsClause line ≡ false
       → Right i (reading m n lits ends) (line ∷ ls)
   session-lines vsids i lits ends line ls g e =
-      heap e (by-the-book n (length ends) (heapOps n lits ends) (inHeap n lits ends) (heap-answers n lits ends) (heap-term3 n lits ends small g) i (line ∷ ls))
+      heap e (by-the-book n (length ends) (heapOps n lits ends) (inHeap n lits ends) (heap-answers n lits ends) (heap-term3 n lits ends small g) i (line ∷ ls) (reading vsids n lits ends)
+      (section-over i vsids n lits ends (line ∷ ls) e))
   session-lines vmtf i lits ends line ls g e =
-      list e (by-the-book n (length ends) (listOps n lits) (inList n lits ends) (list-answers n lits ends) (list-term3 n lits ends small g) i (line ∷ ls))
+      list e (by-the-book n (length ends) (listOps n lits) (inList n lits ends) (list-answers n lits ends) (list-term3 n lits ends small g) i (line ∷ ls) (reading vmtf n lits ends)
+      (section-over i vmtf n lits ends (line ∷ ls) e))
 
   -- Every sheet: from the line behind an accepted first line on
   pub sheet-term3 : (ls : List (List ℕ)) (i : ℕ) (lits ends : List ℕ) → GoodClauses n lits ends → Right i (reading mode n lits ends) ls
   sheet-term3 [] i lits ends g = over
   sheet-term3 (line ∷ ls) i lits ends g =
       true-or-false (beginsClause line)
-      (λ e. clause e (clause-line i lits ends ls g (sheet-term3 ls (i + 1)) (codesIn line)))
+      (λ e. clause e (clause-answer i lits ends line ls e) (clause-line i lits ends ls g (sheet-term3 ls (i + 1)) (codesIn line)))
       (session-lines mode i lits ends line ls g)
 
-refused-not-done : {k : ℕ} {r : Option ℕ} {stage : Stage} → refuse k ≡ done r stage → ⊥
-refused-not-done e = subst (λ (x : Result Stage). IsRefused x) e tt
+-- So it is for every sheet.
+module _ (line : List ℕ) (ls : List (List ℕ)) where
+  behind-first : (first : Option Opening) → firstIn line ≡ first → Told (line ∷ ls)
+  unfolding need answered
+  behind-first none e = let f : opening (firstIn line) ≡ refuse badLine = ap opening e in stopped {ls = ls} f (rw f)
+  behind-first (some o) e =
+      true-or-false (leb (o .vars) maxVars)
+      (λ small.
+      (let f : opening (firstIn line) ≡ done none (reading (o .mode) (o .vars) [] []) = ap opening e ∙ rw small in
+      accepted {ls = ls} f (rw f) (sheet-term3 (o .mode) (o .vars) (leb-true (o .vars) maxVars small) ls 2 [] [] (clauses-facts (o .vars) [] [] .0 (none-ok (o .vars))))))
+      (λ large. (let f : opening (firstIn line) ≡ refuse manyVars = ap opening e ∙ rw large in stopped {ls = ls} f (rw f)))
 
-done-stage : {q r : Option ℕ} {u stage : Stage} → done q u ≡ done r stage → u ≡ stage
-done-stage {u = u} e = ap (λ (x : Result Stage). leaves u x) e
-
--- and so behind every first line that is accepted
-pub accepted-term3 : (first : Option Opening) (r : Option ℕ) (stage : Stage) (ls : List (List ℕ)) → opening first ≡ done r stage → Right 2 stage ls
-unfolding need
-accepted-term3 none r stage ls e = absurd (refused-not-done e)
-accepted-term3 (some o) r stage ls e =
-    true-or-false (leb (o .vars) maxVars)
-    (λ small.
-    subst (λ (u : Stage). Right 2 u ls) (done-stage (rw small at e))
-    (sheet-term3 (o .mode) (o .vars) (leb-true (o .vars) maxVars small) ls 2 [] [] (clauses-facts (o .vars) [] [] .0 (none-ok (o .vars)))))
-    (λ large. absurd (refused-not-done (rw large at e)))
+pub answered-term3 : (ls : List (List ℕ)) → Told ls
+unfolding answered
+answered-term3 [] = nothing refl
+answered-term3 (line ∷ ls) = behind-first line ls (firstIn line) refl

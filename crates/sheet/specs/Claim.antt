@@ -10,10 +10,10 @@ use Rattle.choosers.specs.Heap.{heapOps}
 use Rattle.choosers.specs.List.{listOps}
 use Rattle.book.specs.Calls.{Call}
 use Rattle.book.specs.Chooser.{Operations}
-use Rattle.book.specs.Session.{leaves, Session, fresh}
+use Rattle.book.specs.Session.{done, refuse, status, leaves}
 use Rattle.book.specs.Claim.{Event, Past, begin, run, Claim}
-use Rattle.forms.specs.Forms.{Mode, vsids, vmtf, callIn, beginsClause}
-use Rattle.sheet.specs.Sheet.{Stage, reading, inHeap, inList, turn, answerLine, answers}
+use Rattle.forms.specs.Forms.{Mode, vsids, vmtf, callIn, beginsClause, firstIn}
+use Rattle.sheet.specs.Sheet.{Stage, reading, turn, answerLine, answers, opening, answered}
 
 -- a call, in front of the calls behind it, if there is one
 abbrev pub before : Option Call → List Call → List Call
@@ -46,22 +46,34 @@ unfoldable pub logged : ℕ → List (List ℕ) → List Event → List ℕ
 logged i [] es = []
 logged i (line ∷ ls) es = told i (callIn line) es ++ logged (i + 1) ls (rest (callIn line) es)
 
--- The answers to the lines of a session that begins with them are the log of the run of their calls, and the claim holds of this run.
-pub record ByTheBook (n m : ℕ) (O : Operations) (stage : Session n m O → Stage) (i : ℕ) (ls : List (List ℕ)) : Type 0 where
+-- The answers from a stage on are the log of the run of the lines' calls on a session made fresh, and the claim holds of this run.
+pub record ByTheBook (n m : ℕ) (O : Operations) (stage : Stage) (i : ℕ) (ls : List (List ℕ)) : Type 0 where
   pub events : List Event
   pub log : (run n m O (begin n m O) (callsIn ls)) .past ≡ onto events []
   pub claim : Claim n m O (run n m O (begin n m O) (callsIn ls))
-  pub answers : answers i (stage (fresh n m O)) ls ≡ logged i ls events
+  pub answers : answers i stage ls ≡ logged i ls events
 
--- So it is for every sheet whose first line is accepted, once its clause lines are read.
+-- the clause list behind a clause line
+abbrev pub behind : Mode → ℕ → (lits ends line : List ℕ) → Stage
+behind mode n lits ends line = leaves (reading mode n lits ends) (turn (reading mode n lits ends) line)
+
+-- Behind an accepted first line: clause lines are answered one by one, and from the first line on that is none the answers are by the book.
 pub data Right : ℕ → Stage → List (List ℕ) → Type 0 where
   over : {i : ℕ} {stage : Stage} → Right i stage []
   clause : {i n : ℕ} {mode : Mode} {lits ends line : List ℕ} {ls : List (List ℕ)} → beginsClause line ≡ true
-      → Right (i + 1) (leaves (reading mode n lits ends) (turn (reading mode n lits ends) line)) ls
+      → answers i (reading mode n lits ends) (line ∷ ls) ≡ answerLine i (status (turn (reading mode n lits ends) line)) none ++ answers (i + 1) (behind mode n lits ends line) ls
+      → Right (i + 1) (behind mode n lits ends line) ls
       → Right i (reading mode n lits ends) (line ∷ ls)
   heap : {i n : ℕ} {lits ends line : List ℕ} {ls : List (List ℕ)} → beginsClause line ≡ false
-      → ByTheBook n (length ends) (heapOps n lits ends) (inHeap n lits ends) i (line ∷ ls)
+      → ByTheBook n (length ends) (heapOps n lits ends) (reading vsids n lits ends) i (line ∷ ls)
       → Right i (reading vsids n lits ends) (line ∷ ls)
   list : {i n : ℕ} {lits ends line : List ℕ} {ls : List (List ℕ)} → beginsClause line ≡ false
-      → ByTheBook n (length ends) (listOps n lits) (inList n lits ends) i (line ∷ ls)
+      → ByTheBook n (length ends) (listOps n lits) (reading vmtf n lits ends) i (line ∷ ls)
       → Right i (reading vmtf n lits ends) (line ∷ ls)
+
+-- A sheet's answers: none without lines; one where the first line is refused; else the first line's, and those behind it.
+pub data Told : List (List ℕ) → Type 0 where
+  nothing : answered [] ≡ [] → Told []
+  stopped : {k : ℕ} {line : List ℕ} {ls : List (List ℕ)} → opening (firstIn line) ≡ refuse k → answered (line ∷ ls) ≡ answerLine 1 k none → Told (line ∷ ls)
+  accepted : {n : ℕ} {mode : Mode} {line : List ℕ} {ls : List (List ℕ)} → opening (firstIn line) ≡ done none (reading mode n [] [])
+      → answered (line ∷ ls) ≡ answerLine 1 0 none ++ answers 2 (reading mode n [] []) ls → Right 2 (reading mode n [] []) ls → Told (line ∷ ls)
