@@ -23,14 +23,15 @@ fn counts_ok(n: usize, s: TrailState) -> bool
 fn values_ok(values: &[u8]) -> bool
     ensures { λ r. ⌜ r ≡ spec.valuesOk (now (values .entry)) ⌝ }
 {
+    let mut ok = true;
     let mut v = 0;
     while v < values.len() {
         if values[v] > UNASSIGNED {
-            return false;
+            ok = false;
         }
         v += 1;
     }
-    true
+    ok
 }
 
 // Whether the variable's reason is NONE, or a clause number and the variable assigned.
@@ -61,14 +62,15 @@ fn unused_ok(a: &[u32], used: u32) -> bool
     requires { ⌜ used ≤ length (now a) ⌝ }
     ensures { λ r. ⌜ r ≡ spec.unusedOk (now (a .entry)) used ⌝ }
 {
+    let mut ok = true;
     let mut i = used as usize;
     while i < a.len() {
         if a[i] != NONE {
-            return false;
+            ok = false;
         }
         i += 1;
     }
-    true
+    ok
 }
 
 // Whether the opened level lies below the trail length and above the one before it.

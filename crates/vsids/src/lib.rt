@@ -162,16 +162,13 @@ pub fn insert(
     requires { ⌜ (inHeap (now indices) var ≡ false → s .len < length (now activity)) ⌝ }
     ensures { λ r. ⌜ vsidsOf (now (activity .entry)) (now (heap .exit)) (now (indices .exit)) (now (decision .entry)) r ≡ spec.insert var (vsidsOf (now (activity .entry)) (now (heap .entry)) (now (indices .entry)) (now (decision .entry)) s) ⌝ }
 {
-    if heap::in_heap(indices, var) {
-        return s;
-    }
-    if !decision[var as usize] {
-        return s;
-    }
-    let len = s.len;
-    heap::insert(activity, heap, indices, len, var);
     let step = s.step;
-    VsidsState { len: len + 1, step }
+    let mut len = s.len;
+    if !heap::in_heap(indices, var) && decision[var as usize] {
+        heap::insert(activity, heap, indices, len, var);
+        len += 1;
+    }
+    VsidsState { len, step }
 }
 
 // Switches var off: it is never chosen again.

@@ -1,45 +1,38 @@
--- `trail_check::values_ok` meets its contract: the variables passed so far pass the test.
-use Prim.Native.Nat.{_-_}
-use mathlib.Core.Path.{sym}
+-- `trail_check::values_ok` meets its contract: what is known of the variables passed so far is that they pass the test, or not.
+use Prim.Native.Nat.{_≤_, _-_}
+use mathlib.Core.Path.{_≡_, refl}
+use mathlib.Core.Logic.{⊎-elim}
 use native.Mathlib.Omega.{arith}
 use borrow.Author.Needs.{needs}
-use lib.ListN.{length}
 use borrow.Author.Tests.{le-leb, lt-leb}
-use Rattle.laws.specs.Every.{Passed, passed-none, passed-more, passed-all, passed-fails}
+use lib.ListN.{length}
+use Rattle.laws.specs.Every.{every}
 use Rattle.trail_check.specs.Check.{valueOk, valuesOk}
+use Rattle.trail_check.proofs.Whole.{flag-stays, flag-falls}
 use Rattle.trail_check.proofs.values_ok.Statement.{statement}
 use Rattle.trail_check.proofs.values_ok.Tie as tie
 
 abbrev Inv-loop : tie.InvT-loop
-Inv-loop values v₀ v = Passed (valueOk values) (length values) v
+Inv-loop values ok₀ v₀ ok v = (v ≤ length values) × (ok ≡ every (valueOk values) v)
 
 abbrev μ-loop : tie.MeasureT-loop
-μ-loop values v₀ v = length values - v
+μ-loop values ok₀ v₀ ok v = length values - v
 
 loop-holds : tie.Need-loop-holds Inv-loop μ-loop
-loop-holds c = passed-none
+unfolding every
+loop-holds c = (omega arith, refl)
+
+loop-again : tie.Need-loop-again Inv-loop μ-loop
+loop-again c =
+    let l = c .before .before .before .loop in
+    let p = valueOk (c .before .before .before .before .args .values .now) in
+    (omega arith, ⊎-elim (λ w. flag-falls p (l .v) (w .1) (lt-leb _ _ (w .0 .taken))) (λ w. flag-stays p (l .v) (l .inv .1) (w .1) (le-leb _ _ (w .0 .left))) (c .if1 .came))
 
 returns : tie.Need-returns Inv-loop μ-loop
 unfolding valuesOk
-returns c = sym (passed-fails (c .before .before .before .loop .inv) (omega arith) (lt-leb _ _ (c .if1 .taken)))
-
-loop-again : tie.Need-loop-again Inv-loop μ-loop
-loop-again c = passed-more (c .before .before .before .loop .inv) (omega arith) (le-leb _ _ (c .if1 .left))
-
-returns-2 : tie.Need-returns-2 Inv-loop μ-loop
-unfolding valuesOk
-returns-2 c = sym (passed-all (c .before .loop .inv) (omega arith))
+returns c = let l = c .before .loop in let e : l .v ≡ length (c .before .before .args .values .now) = omega arith in rw e at (l .inv .1)
 
 pub values-ok-spec : {M : Type 1} → statement M
 values-ok-spec =
     tie.close
-    (tie.spec
-    Inv-loop
-    μ-loop
-    loop-holds
-    (λ c. search needs)
-    returns
-    (λ c. search needs)
-    (λ c. search needs)
-    loop-again
-    returns-2)
+    (tie.spec Inv-loop μ-loop loop-holds (λ c. search needs) (λ c. search needs) (λ c. search needs) loop-again returns)
