@@ -86,20 +86,22 @@ fn offer_undone(
     ensures { λ r. ⌜ vsidsOf (now (activity .entry)) (now (heap .exit)) (now (indices .exit)) (now (decision .entry)) r
         ≡ insertAll (between (now (trail .entry)) from to) (vsidsOf (now (activity .entry)) (now (heap .entry)) (now (indices .entry)) (now (decision .entry)) s) ⌝ }
 {
-    let mut state = s;
+    let step = s.step;
+    let mut len = s.len;
     let mut i = to;
     while from < i {
         i -= 1;
-        state = vsids::insert(
+        let offered = vsids::insert(
             activity,
             heap,
             indices,
             decision,
-            state,
+            VsidsState { len, step },
             lit::index(trail[i as usize]),
         );
+        len = offered.len;
     }
-    state
+    VsidsState { len, step }
 }
 
 // Goes back to a level if it is below the present one; the variables that become unassigned are offered to the heap.
