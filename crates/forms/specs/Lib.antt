@@ -5,5 +5,6 @@ pub mod Behind
 pub mod Laws
 pub mod Read
 pub mod Counting
+pub mod Short
 pub mod Told
 pub mod Lines

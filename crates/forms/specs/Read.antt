@@ -1,33 +1,53 @@
 -- What reading a line gives, as code has it.
 use mathlib.Core.Path.{_≡_}
 use mathlib.Core.Option.{Option, none, some}
-use mathlib.Core.List.{List}
-use Prim.Native.Nat.{ℕ, _≤_}
-use lib.ListN.{length, take}
+use mathlib.Core.List.{List, []}
+use Prim.Native.Nat.{ℕ, _*_, _≤_}
+use lib.ListN.{length, take, drop}
+use Rattle.lit.specs.Numbers.{maxGroup}
 use Rattle.calls.specs.Calls.{callOf}
-use Rattle.book.specs.Calls.{Call, bump, insert, switchOff, decide, learnUnit, goBack, bumpReason}
+use Rattle.book.specs.Calls.{Call, bump, insert, switchOff, decide, learnUnit, goBack, bumpReason, group}
 use Rattle.forms.specs.declared.Read as read
 use Rattle.forms.specs.declared.Read.the-variants as a-call
 use Rattle.forms.specs.declared.Count as count
 use Rattle.forms.specs.declared.Count.the-variants as a-count
 use Rattle.forms.specs.declared.First as first
 use Rattle.forms.specs.declared.First.the-variants as a-first
-use Rattle.forms.specs.Forms.{Kind, bumps, decays, setsDecay, inserts, switchesOff, decides, enqueues, learnsUnit, goesBack, bumpsReason, movesGroup, isClause, isFirst, isOther, Mode, vsids, vmtf, Opening}
+use Rattle.forms.specs.Forms.{Kind, bumps, decays, setsDecay, inserts, switchesOff, decides, enqueues, learnsUnit, goesBack, bumpsReason, movesGroup, isClause, isFirst, isOther, Mode, vsids, vmtf, Opening, given, groupIn, callIn}
+use Rattle.forms.specs.Behind.{behind}
 
--- the call that was read, with a group's variables in front in vars
-abbrev pub callRead : read.Read → List ℕ → Option Call
-callRead a-call.Bad vars = none
-callRead (a-call.Is c k) vars = some (callOf c (take k vars))
+-- the group behind a line's letter
+abbrev pub groupOn : List ℕ → Option Call
+groupOn line = given (behind (drop 1 line)) groupIn
 
--- how many variables stand beside it
-abbrev pub beside : read.Read → ℕ
-beside a-call.Bad = 0
-beside (a-call.Is c k) = k
+-- the call that is read of a line; a group's variables are still to be read
+abbrev pub callRead : List ℕ → read.Read → Option Call
+callRead line a-call.Bad = none
+callRead line (a-call.Is c) = some (callOf c [])
+callRead line a-call.Group = groupOn line
 
--- What was read is the call, if there is one, and its variables stand in vars.
-pub record CallRead (c : Option Call) (r : read.Read) (vars : List ℕ) : Type 0 where
-  pub is : callRead r vars ≡ c
-  pub within : beside r ≤ length vars
+-- What was read is the call that the line is, if it is one.
+pub record CallRead (line : List ℕ) (r : read.Read) : Type 0 where
+  pub is : callRead line r ≡ callIn line
+
+-- the group that was read, with its variables in front in vars
+abbrev pub groupRead : count.Count → List ℕ → Option Call
+groupRead a-count.Bad vars = none
+groupRead (a-count.Are k) vars = some (group (take k vars))
+
+-- how many variables it has
+abbrev pub groupCount : count.Count → ℕ
+groupCount a-count.Bad = 0
+groupCount (a-count.Are k) = k
+
+-- What was read is the group behind the line's letter, if one is there, and its variables stand in vars.
+pub record GroupRead (line : List ℕ) (r : count.Count) (vars : List ℕ) : Type 0 where
+  pub is : groupRead r vars ≡ groupOn line
+  pub within : groupCount r ≤ length vars
+
+-- Any group that a line has room for fits in vars: a variable takes two bytes at least.
+pub record Fits (line vars : List ℕ) : Type 0 where
+  pub fits : (k : ℕ) → k ≤ maxGroup → 2 * k ≤ length line → k ≤ length vars
 
 -- the call of a kind that takes one whole number
 abbrev pub numbered : Kind → ℕ → Option Call

@@ -2,24 +2,23 @@
 use mathlib.Core.Path.{_≡_, refl, sym, ap, _∙_}
 use mathlib.Core.Bool.{cond}
 use mathlib.Core.Option.{Option, none, some}
-use mathlib.Core.List.{List, []}
+use mathlib.Core.List.{List}
 use Prim.Native.Nat.{ℕ, _≤_, _<_}
 use native.Mathlib.Omega.{arith}
 use lib.Dec.{leb}
-use lib.ListN.{length, take}
+use lib.ListN.{length, take, drop}
 use borrow.Author.Tests.{le-leb, lt-leb}
 use Rattle.lit.specs.Numbers.{maxGroup}
 use Rattle.text.specs.declared.Whole.the-variants as a-whole
 use Rattle.text.specs.declared.Bits.the-variants as a-pattern
 use Rattle.text.specs.Read.{wholeOf, bitsOf}
-use Rattle.calls.specs.declared.Call.the-variants as variant
 use Rattle.book.specs.Calls.{Call, group}
-use Rattle.forms.specs.declared.Read as read
-use Rattle.forms.specs.declared.Read.the-variants as a-call
 use Rattle.forms.specs.declared.Count as count
 use Rattle.forms.specs.declared.Count.the-variants as a-count
-use Rattle.forms.specs.Forms.{movesGroup, given, numbers, callWith}
-use Rattle.forms.specs.Read.{CallRead, Counted}
+use Rattle.forms.specs.Forms.{given, numbers}
+use Rattle.forms.specs.Behind.{behind}
+use Rattle.forms.specs.Read.{Counted, Fits, GroupRead, groupOn}
+use Rattle.forms.specs.Short.{listed-short}
 
 pub whole-is : (o : Option ℕ) {v : ℕ} → wholeOf o ≡ a-whole.Is v → o ≡ some v
 whole-is none e = let z : _≡_ {A = ℕ} 0 1 = cc in absurd (omega arith)
@@ -56,13 +55,6 @@ module _ {r : count.Count} (out : List ℕ) where
       let same : length ns ≡ k = cc in
       record { numbers = ns; is = refl; count = same; held = rw same at (c .1) }
 
--- a call with no variables beside it reads the same beside any
-pub beside-any : {c : Option Call} (r : read.Read) (vars : List ℕ) → CallRead c r [] → CallRead c r vars
-beside-any a-call.Bad vars h = record { is = h .is; within = omega arith }
-beside-any (a-call.Is x k) vars h =
-    let z : k ≡ 0 = omega (arith, h .within) in
-    record { is = rw z (rw z at (h .is)); within = omega arith }
-
 -- a group: its numbers, unless they are too many
 given-twice : {A B C : Type 0} (o : Option A) (f : A → Option B) (g : B → Option C) → given o (λ x. given (f x) g) ≡ given (given o f) g
 given-twice none f g = refl
@@ -71,19 +63,24 @@ given-twice (some x) f g = refl
 grouped : List ℕ → Option Call
 grouped vs = cond (leb (length vs) maxGroup) (some (group vs)) none
 
-module _ (fs : Option (List (List ℕ))) (vars : List ℕ) where
-  group-of : given fs (callWith movesGroup) ≡ given (given fs numbers) grouped
+module _ (line vars : List ℕ) where
+  abbrev listed : Option (List ℕ)
+  listed = given (behind (drop 1 line)) numbers
+
+  group-of : groupOn line ≡ given listed grouped
   unfolding grouped
-  group-of = given-twice fs numbers grouped
+  group-of = given-twice (behind (drop 1 line)) numbers grouped
 
-  pub group-bad : given fs numbers ≡ none → CallRead (given fs (callWith movesGroup)) a-call.Bad vars
-  group-bad e = rw (group-of, e) (record { is = refl; within = omega arith })
+  pub group-bad : listed ≡ none → GroupRead line a-count.Bad vars
+  group-bad e = record { is = sym (group-of ∙ rw e); within = omega arith }
 
-  module _ {k : ℕ} (h : Held (given fs numbers) k vars) where
-    pub group-long : maxGroup < k → CallRead (given fs (callWith movesGroup)) a-call.Bad vars
+  module _ {k : ℕ} (h : Held listed k vars) where
+    pub group-long : maxGroup < k → GroupRead line a-count.Bad vars
     unfolding grouped
     group-long l = record { is = sym (group-of ∙ rw (h .is, h .count, lt-leb k maxGroup l)); within = omega arith }
 
-    pub group-is : k ≤ maxGroup → length vars ≡ maxGroup → CallRead (given fs (callWith movesGroup)) (a-call.Is variant.Group k) vars
+    pub group-is : k ≤ maxGroup → {lent : List ℕ} → Fits line lent → length vars ≡ length lent → GroupRead line (a-count.Are k) vars
     unfolding grouped
-    group-is l e = record { is = ap (λ (vs : List ℕ). some (group vs)) (h .held (omega arith)) ∙ sym (group-of ∙ rw (h .is, h .count, le-leb k maxGroup l)); within = omega arith }
+    group-is l f e =
+        let within : k ≤ length vars = omega (arith, f .fits k l (omega (arith, listed-short line (h .numbers) (h .is), h .count))) in
+        record { is = ap (λ (vs : List ℕ). some (group vs)) (h .held within) ∙ sym (group-of ∙ rw (h .is, h .count, le-leb k maxGroup l)); within = within }

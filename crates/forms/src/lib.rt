@@ -3,16 +3,16 @@ pub mod table;
 
 ghost use mathlib.Core.Path.{_≡_};
 ghost use mathlib.Core.Option.{some};
-ghost use mathlib.Core.List.{[]};
-ghost use lib.ListN.{length, drop, set};
-ghost use Rattle.lit.specs.Numbers.{maxGroup};
+ghost use mathlib.Core.List.{List};
+ghost use Prim.Native.Nat.{ℕ};
+ghost use lib.ListN.{drop, set};
 ghost use Rattle.text.specs.Text.{fields};
 ghost use Rattle.text.specs.Text as text-spec;
 ghost use Rattle.text.specs.Read.{wholeOf};
 ghost use Rattle.forms.specs.Forms as spec;
 ghost use Rattle.forms.specs.Kinds.{ofNumber};
 ghost use Rattle.forms.specs.Behind.{behind, tabbed, secondTab};
-ghost use Rattle.forms.specs.Read.{CallRead, Counted, firstOf, numbered};
+ghost use Rattle.forms.specs.Read.{callRead, CallRead, Fits, GroupRead, Counted, firstOf, numbered};
 use calls::Call;
 use lit::MAX_GROUP;
 use lit::NONE;
@@ -34,9 +34,10 @@ use text::Bits;
 use text::TAB;
 use text::Whole;
 
-// A call, with the number of a group's variables beside it, or none where the line has no call's form.
+// A call, a group whose variables are still to be read, or none where the line has no call's form.
 pub enum Read {
-    Is(Call, usize),
+    Is(Call),
+    Group,
     Bad,
 }
 
@@ -180,7 +181,7 @@ fn read_reason(field: &[u8]) -> Whole
 
 // `w`: the pattern of a double.
 fn read_decay(line: &[u8]) -> Read
-    ensures { λ r. ⌜ CallRead (spec.given (behind (drop 1 (now (line .entry)))) (spec.callWith spec.setsDecay)) r [] ⌝ }
+    ensures { λ r. ⌜ callRead (now (line .entry)) r ≡ spec.given (behind (drop 1 (now (line .entry)))) (spec.callWith spec.setsDecay) ⌝ }
 {
     if !has_fields(line) {
         return Read::Bad;
@@ -188,12 +189,12 @@ fn read_decay(line: &[u8]) -> Read
     let Bits::Are(p) = text::pattern(&line[2..]) else {
         return Read::Bad;
     };
-    Read::Is(Call::SetDecay(text::double(p)), 0)
+    Read::Is(Call::SetDecay(text::double(p)))
 }
 
 // `e`: a code and a reason.
 fn read_enqueue(line: &[u8]) -> Read
-    ensures { λ r. ⌜ CallRead (spec.given (behind (drop 1 (now (line .entry)))) (spec.callWith spec.enqueues)) r [] ⌝ }
+    ensures { λ r. ⌜ callRead (now (line .entry)) r ≡ spec.given (behind (drop 1 (now (line .entry)))) (spec.callWith spec.enqueues) ⌝ }
 {
     let end = second_tab(line);
     if end == line.len() {
@@ -205,42 +206,28 @@ fn read_enqueue(line: &[u8]) -> Read
     let Whole::Is(reason) = read_reason(&line[end + 1..]) else {
         return Read::Bad;
     };
-    Read::Is(Call::Enqueue(code, reason), 0)
-}
-
-// `f`: at most 2,048 variables.
-fn read_group(line: &[u8], vars: &mut [u32]) -> Read
-    requires { ⌜ length (now vars) ≡ maxGroup ⌝ }
-    ensures { λ r. ⌜ CallRead (spec.given (behind (drop 1 (now (line .entry)))) (spec.callWith spec.movesGroup)) r (now (vars .exit)) ⌝ }
-{
-    let Count::Are(k) = read_list(line, vars) else {
-        return Read::Bad;
-    };
-    if k > MAX_GROUP as usize {
-        return Read::Bad;
-    }
-    Read::Is(Call::Group, k)
+    Read::Is(Call::Enqueue(code, reason))
 }
 
 // The call of a kind that takes one whole number.
 fn with_number(k: u8, v: u32) -> Read
-    ensures { λ r. ⌜ CallRead (numbered (ofNumber k) v) r [] ⌝ }
+    ensures { λ r. ⌜ ((line : List ℕ) → callRead line r ≡ numbered (ofNumber k) v) ⌝ }
 {
     match k {
-        BUMPS => Read::Is(Call::Bump(v), 0),
-        INSERTS => Read::Is(Call::Insert(v), 0),
-        SWITCHES_OFF => Read::Is(Call::SwitchOff(v), 0),
-        DECIDES => Read::Is(Call::Decide(v), 0),
-        LEARNS_UNIT => Read::Is(Call::LearnUnit(v), 0),
-        GOES_BACK => Read::Is(Call::GoBack(v), 0),
-        BUMPS_REASON => Read::Is(Call::BumpReason(v), 0),
+        BUMPS => Read::Is(Call::Bump(v)),
+        INSERTS => Read::Is(Call::Insert(v)),
+        SWITCHES_OFF => Read::Is(Call::SwitchOff(v)),
+        DECIDES => Read::Is(Call::Decide(v)),
+        LEARNS_UNIT => Read::Is(Call::LearnUnit(v)),
+        GOES_BACK => Read::Is(Call::GoBack(v)),
+        BUMPS_REASON => Read::Is(Call::BumpReason(v)),
         _ => Read::Bad,
     }
 }
 
 // The call of such a kind that a line is.
 fn read_one(k: u8, line: &[u8]) -> Read
-    ensures { λ r. ⌜ CallRead (spec.given (spec.given (behind (drop 1 (now (line .entry)))) (spec.one text-spec.number)) (numbered (ofNumber k))) r [] ⌝ }
+    ensures { λ r. ⌜ callRead (now (line .entry)) r ≡ spec.given (spec.given (behind (drop 1 (now (line .entry)))) (spec.one text-spec.number)) (numbered (ofNumber k)) ⌝ }
 {
     let Whole::Is(v) = one_number(line) else {
         return Read::Bad;
@@ -248,10 +235,9 @@ fn read_one(k: u8, line: &[u8]) -> Read
     with_number(k, v)
 }
 
-// The call that a line is, with a group's variables in front in vars.
-pub fn read_call(line: &[u8], vars: &mut [u32]) -> Read
-    requires { ⌜ length (now vars) ≡ maxGroup ⌝ }
-    ensures { λ r. ⌜ CallRead (spec.callIn (now (line .entry))) r (now (vars .exit)) ⌝ }
+// The call that a line is.
+pub fn read_call(line: &[u8]) -> Read
+    ensures { λ r. ⌜ CallRead (now (line .entry)) r ⌝ }
 {
     if line.len() == 0 {
         return Read::Bad;
@@ -260,15 +246,29 @@ pub fn read_call(line: &[u8], vars: &mut [u32]) -> Read
     match k {
         DECAYS => {
             if line.len() == 1 {
-                return Read::Is(Call::Decay, 0);
+                return Read::Is(Call::Decay);
             }
             Read::Bad
         }
         SETS_DECAY => read_decay(line),
         ENQUEUES => read_enqueue(line),
-        MOVES_GROUP => read_group(line, vars),
+        MOVES_GROUP => Read::Group,
         _ => read_one(k, line),
     }
+}
+
+// The variables of a group, in front in vars: at most 2,048.
+pub fn read_group(line: &[u8], vars: &mut [u32]) -> Count
+    requires { ⌜ Fits (now line) (now vars) ⌝ }
+    ensures { λ r. ⌜ GroupRead (now (line .entry)) r (now (vars .exit)) ⌝ }
+{
+    let Count::Are(k) = read_list(line, vars) else {
+        return Count::Bad;
+    };
+    if k > MAX_GROUP as usize {
+        return Count::Bad;
+    }
+    Count::Are(k)
 }
 
 // What n variables and the word of a mode open: `vsids` is the heap, `vmtf` the list.

@@ -15,7 +15,6 @@ use Rattle.forms.proofs.read_decay.Tie as tie
 returns : tie.Need-returns
 returns c =
     rw (untabbed (c .before .before .before .args .line .now) (callWith setsDecay) refl (sym (c .before .has-fields .ensures) ∙ not-true _ (c .if1 .taken)))
-    (record { is = refl; within = omega arith })
 
 sub-pattern : tie.Need-sub-pattern
 sub-pattern c = tabbed-long (c .before .before .before .args .line .now) (sym (c .before .has-fields .ensures) ∙ not-false _ (c .if1 .left))
@@ -30,13 +29,13 @@ returns-2 : tie.Need-returns-2
 returns-2 c =
     let line = c .before .before .before .before .before .before .before .args .line .now in
     let none = bits-bad (pattern (drop 2 line)) (sym (c .before .before .pattern .ensures ∙ rw (to-end 2 line)) ∙ c .enum-told .given .1) in
-    rw (one-behind line (sym (c .before .before .before .before .before .has-fields .ensures) ∙ not-false _ (c .before .before .before .before .if1 .left)) decayIn decay-tab, none) (record { is = refl; within = omega arith })
+    rw (one-behind line (sym (c .before .before .before .before .before .has-fields .ensures) ∙ not-false _ (c .before .before .before .before .if1 .left)) decayIn decay-tab, none)
 
 returns-3 : tie.Need-returns-3
 returns-3 c =
     let line = c .before .before .before .before .before .before .before .before .before .args .line .now in
     let is = bits-are (pattern (drop 2 line)) (sym (c .before .before .before .before .pattern .ensures ∙ rw (to-end 2 line)) ∙ c .before .before .p .given .1) in
-    rw (one-behind line (sym (c .before .before .before .before .before .before .before .has-fields .ensures) ∙ not-false _ (c .before .before .before .before .before .before .if1 .left)) decayIn decay-tab, is, c .double .ensures) (record { is = refl; within = omega arith })
+    rw (one-behind line (sym (c .before .before .before .before .before .before .before .has-fields .ensures) ∙ not-false _ (c .before .before .before .before .before .before .if1 .left)) decayIn decay-tab, is, c .double .ensures)
 
 pub read-decay-spec : {M : Type 1} → statement M
 read-decay-spec =

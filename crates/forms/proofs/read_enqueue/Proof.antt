@@ -16,7 +16,7 @@ range : (c : tie.Else1) → (2 ≤ c .before .second-tab .result) × (c .before 
 range c = second-range (c .before .before .before .args .line .now) (c .before .second-tab .ensures) (c .if1 .left)
 
 returns : tie.Need-returns
-returns c = rw (two-none (c .before .before .before .args .line .now) (c .before .second-tab .ensures) enqueueIn (c .if1 .taken)) (record { is = refl; within = omega arith })
+returns c = rw (two-none (c .before .before .before .args .line .now) (c .before .second-tab .ensures) enqueueIn (c .if1 .taken))
 
 sub-number : tie.Need-sub-number
 sub-number c = range c .0
@@ -35,7 +35,6 @@ returns-2 c =
     let line = c .before .before .before .before .before .before .before .args .line .now in
     let end = c .before .before .before .before .before .second-tab .result in
     rw (two-behind line (c .before .before .before .before .before .second-tab .ensures) enqueueIn enqueue-tab (c .before .before .before .before .if1 .left), whole-bad (number (take (end - 2) (drop 2 line))) (sym (c .before .before .number .ensures) ∙ c .enum-told .given .1))
-    (record { is = refl; within = omega arith })
 
 add-read-reason : tie.Need-add-read-reason
 add-read-reason c = omega (arith, range (c .before .before .before .before .before), c .before .before .before .before .before .before .before .before .good)
@@ -54,7 +53,6 @@ returns-3 c =
     let end = c .before .before .before .before .before .before .before .before .before .before .second-tab .result in
     let bad = whole-bad (reasonIn (drop (end + 1) line)) (sym (c .before .before .read-reason .ensures ∙ rw (to-end (end + 1) line)) ∙ c .enum-told2 .given .1) in
     rw (two-behind line (c .before .before .before .before .before .before .before .before .before .before .second-tab .ensures) enqueueIn enqueue-tab (c .before .before .before .before .before .before .before .before .before .if1 .left), whole-is (number (take (end - 2) (drop 2 line))) (sym (c .before .before .before .before .before .before .before .number .ensures) ∙ c .before .before .before .before .before .code .given .1), bad)
-    (record { is = refl; within = omega arith })
 
 returns-4 : tie.Need-returns-4
 returns-4 c =
@@ -62,7 +60,6 @@ returns-4 c =
     let end = c .before .before .before .before .before .before .before .before .before .before .before .second-tab .result in
     let is = whole-is (reasonIn (drop (end + 1) line)) (sym (c .before .before .before .read-reason .ensures ∙ rw (to-end (end + 1) line)) ∙ c .before .reason .given .1) in
     rw (two-behind line (c .before .before .before .before .before .before .before .before .before .before .before .second-tab .ensures) enqueueIn enqueue-tab (c .before .before .before .before .before .before .before .before .before .before .if1 .left), whole-is (number (take (end - 2) (drop 2 line))) (sym (c .before .before .before .before .before .before .before .before .number .ensures) ∙ c .before .before .before .before .before .before .code .given .1), is)
-    (record { is = refl; within = omega arith })
 
 pub read-enqueue-spec : {M : Type 1} → statement M
 read-enqueue-spec =

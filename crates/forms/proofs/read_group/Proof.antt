@@ -13,21 +13,21 @@ enum-told c = search needs
 
 returns : tie.Need-returns
 returns c =
-    let fs = behind (drop 1 (c .before .before .before .before .before .before .before .before .args .line .now)) in
+    let line = c .before .before .before .before .before .before .before .before .args .line .now in
     let out = c .before .before .before .before .read-list .last .1 .0 in
-    group-bad fs out (counted-bad out (given fs numbers) (c .before .before .before .before .read-list .ensures) (c .enum-told .given .1))
+    group-bad line out (counted-bad out (given (behind (drop 1 line)) numbers) (c .before .before .before .before .read-list .ensures) (c .enum-told .given .1))
 
 returns-2 : tie.Need-returns-2
 returns-2 c =
-    let fs = behind (drop 1 (c .before .before .before .before .before .before .before .before .before .before .args .line .now)) in
+    let line = c .before .before .before .before .before .before .before .before .before .before .args .line .now in
     let out = c .before .before .before .before .before .before .read-list .last .1 .0 in
-    group-long fs out (counted-are out (given fs numbers) (c .before .before .before .before .before .before .read-list .ensures) (c .before .before .k .given .1)) (c .if1 .taken)
+    group-long line out (counted-are out (given (behind (drop 1 line)) numbers) (c .before .before .before .before .before .before .read-list .ensures) (c .before .before .k .given .1)) (c .if1 .taken)
 
 returns-3 : tie.Need-returns-3
 returns-3 c =
-    let fs = behind (drop 1 (c .before .before .before .before .before .before .before .before .before .before .args .line .now)) in
+    let line = c .before .before .before .before .before .before .before .before .before .before .args .line .now in
     let out = c .before .before .before .before .before .before .read-list .last .1 .0 in
-    group-is fs out (counted-are out (given fs numbers) (c .before .before .before .before .before .before .read-list .ensures) (c .before .before .k .given .1)) (c .if1 .left) (c .before .before .before .before .before .before .read-list .kept .1 .0 ∙ c .before .before .before .before .before .before .before .before .before .before .pre)
+    group-is line out (counted-are out (given (behind (drop 1 line)) numbers) (c .before .before .before .before .before .before .read-list .ensures) (c .before .before .k .given .1)) (c .if1 .left) (c .before .before .before .before .before .before .before .before .before .before .pre) (c .before .before .before .before .before .before .read-list .kept .1 .0)
 
 pub read-group-spec : {M : Type 1} → statement M
 read-group-spec =

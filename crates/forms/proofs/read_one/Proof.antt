@@ -16,11 +16,10 @@ enum-told c = search needs
 returns : tie.Need-returns
 returns c =
     rw (whole-bad (given (behind (drop 1 (c .before .before .before .before .args .line .now))) (one number)) (sym (c .before .before .one-number .ensures) ∙ c .enum-told .given .1))
-    (record { is = refl; within = omega arith })
 
 returns-2 : tie.Need-returns-2
 returns-2 c =
-    rw (whole-is (given (behind (drop 1 (c .before .before .before .before .before .before .args .line .now))) (one number)) (sym (c .before .before .before .before .one-number .ensures) ∙ c .before .before .v .given .1)) (c .with-number .ensures)
+    rw (whole-is (given (behind (drop 1 (c .before .before .before .before .before .before .args .line .now))) (one number)) (sym (c .before .before .before .before .one-number .ensures) ∙ c .before .before .v .given .1)) (c .with-number .ensures (c .before .before .before .before .before .before .args .line .now))
 
 pub read-one-spec : {M : Type 1} → statement M
 read-one-spec =

@@ -14,25 +14,25 @@ use Rattle.forms.proofs.with_number.Statement.{statement}
 use Rattle.forms.proofs.with_number.Tie as tie
 
 returns : tie.Need-returns
-returns c = record { is = rw (c .match .keys1); within = search needs }
+returns c = λ line. rw (c .match .keys1)
 
 returns-2 : tie.Need-returns-2
-returns-2 c = record { is = rw (c .match .keys2); within = search needs }
+returns-2 c = λ line. rw (c .match .keys2)
 
 returns-3 : tie.Need-returns-3
-returns-3 c = record { is = rw (c .match .keys3); within = search needs }
+returns-3 c = λ line. rw (c .match .keys3)
 
 returns-4 : tie.Need-returns-4
-returns-4 c = record { is = rw (c .match .keys4); within = search needs }
+returns-4 c = λ line. rw (c .match .keys4)
 
 returns-5 : tie.Need-returns-5
-returns-5 c = record { is = rw (c .match .keys5); within = search needs }
+returns-5 c = λ line. rw (c .match .keys5)
 
 returns-6 : tie.Need-returns-6
-returns-6 c = record { is = rw (c .match .keys6); within = search needs }
+returns-6 c = λ line. rw (c .match .keys6)
 
 returns-7 : tie.Need-returns-7
-returns-7 c = record { is = rw (c .match .keys7); within = search needs }
+returns-7 c = λ line. rw (c .match .keys7)
 
 -- a number past these: the next kind in the rule is none of theirs, or the number is not its
 module _ (k v : ℕ) where
@@ -61,7 +61,7 @@ returns-8 c =
     not k v 11 movesGroup (λ e. record { is = refl }) (
     not k v 12 isClause (λ e. record { is = refl }) (
     not k v 13 isFirst (λ e. record { is = refl }) (record { is = refl }))))))))))))) in
-    record { is = sym (no .is); within = search needs }
+    λ line. sym (no .is)
 
 pub with-number-spec : {M : Type 1} → statement M
 with-number-spec = tie.close (tie.spec returns returns-2 returns-3 returns-4 returns-5 returns-6 returns-7 returns-8)
