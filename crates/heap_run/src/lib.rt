@@ -1,8 +1,9 @@
 // The lines of a session in heap mode: each is a call, answered in turn.
-ghost use mathlib.Core.Path.{_≡_};
-ghost use Prim.Native.Nat.{_<_};
+ghost use mathlib.Core.Bool.{Bool};
+ghost use mathlib.Core.List.{List};
+ghost use Prim.Native.Nat.{ℕ, _<_};
+ghost use lib.Ieee.{Float};
 ghost use lib.ListN.{length};
-ghost use Rattle.lit.specs.Numbers as number;
 ghost use Rattle.trail.specs.Memory.{trailOf};
 ghost use Rattle.vsids.specs.Vsids.{vsidsOf};
 ghost use Rattle.choosers.specs.Heap.{heapOps};
@@ -10,13 +11,17 @@ ghost use Rattle.calls.specs.Entry.{Answered};
 ghost use Rattle.heap_calls.specs.Memory.{sessionOf};
 ghost use Rattle.heap_calls.specs.Good.{GoodSession};
 ghost use Rattle.forms.specs.Forms.{callIn};
+ghost use Rattle.forms.specs.Read.{groupOn, Fits};
 ghost use Rattle.sheet.specs.Sheet.{called, inHeap};
 ghost use Rattle.sheet.specs.Running.{Room, Ended};
 ghost use Rattle.heap_run.specs.Lines.{HeapAlong};
+use forms::Count;
 use forms::Read;
 use heap_calls::HeapAnswer;
 use heap_calls::HeapState;
+use heap_calls::order;
 use lit::BAD_LINE;
+use lit::NONE;
 use sheet::Place;
 use text::NEWLINE;
 
@@ -26,7 +31,38 @@ pub struct HeapPlace {
     pub state: HeapState,
 }
 
-// A line on a good session: the call that it is, or refusal 3. The variables are scratch.
+// A group's line, with scratch for its variables: they are tested, and nothing changes.
+fn group_with(line: &[u8], n: u32, s: HeapState, vars: &mut [u32]) -> HeapAnswer
+    requires { ⌜ Fits (now line) (now vars) ⌝ }
+    ensures { λ r. ⌜ ((m : ℕ) (lits ends values levels reasons trail opened : List ℕ) (a : List Float) (h p : List ℕ) (d : List Bool) → Answered (called n m (heapOps n lits ends) (sessionOf n m lits ends values levels reasons trail opened a h p d s) (groupOn (now (line .entry))))
+        (sessionOf n m lits ends values levels reasons trail opened a h p d s)
+        (r .status)
+        (r .reply)
+        (sessionOf n m lits ends values levels reasons trail opened a h p d (r .state))) ⌝ }
+{
+    match forms::read_group(line, vars) {
+        Count::Bad => heap_calls::refuse(BAD_LINE, s),
+        Count::Are(k) => order::group(n, s, &vars[..k]),
+    }
+}
+
+// The same with scratch of its own, less for a short line: each variable takes two bytes at least.
+fn group_line(line: &[u8], n: u32, s: HeapState) -> HeapAnswer
+    ensures { λ r. ⌜ ((m : ℕ) (lits ends values levels reasons trail opened : List ℕ) (a : List Float) (h p : List ℕ) (d : List Bool) → Answered (called n m (heapOps n lits ends) (sessionOf n m lits ends values levels reasons trail opened a h p d s) (groupOn (now (line .entry))))
+        (sessionOf n m lits ends values levels reasons trail opened a h p d s)
+        (r .status)
+        (r .reply)
+        (sessionOf n m lits ends values levels reasons trail opened a h p d (r .state))) ⌝ }
+{
+    if line.len() <= 128 {
+        let mut few = [NONE; 64];
+        return group_with(line, n, s, &mut few);
+    }
+    let mut vars = [NONE; 2048];
+    group_with(line, n, s, &mut vars)
+}
+
+// A line on a good session: the call that it is, or refusal 3.
 fn line_call(
     line: &[u8],
     n: u32,
@@ -43,10 +79,8 @@ fn line_call(
     indices: &mut [u32],
     decision: &mut [bool],
     s: HeapState,
-    vars: &mut [u32],
 ) -> HeapAnswer
     requires { ⌜ GoodSession n m (now lits) (now ends) (trailOf (now values) (now levels) (now reasons) (now trail) (now opened) (s .trail)) (vsidsOf (now activity) (now heap) (now indices) (now decision) (s .vsids)) ⌝ }
-    requires { ⌜ length (now vars) ≡ number.maxGroup ⌝ }
     ensures { λ r. ⌜ Answered (called n m (heapOps n (now (lits .entry)) (now (ends .entry)))
         (sessionOf n m (now (lits .entry)) (now (ends .entry)) (now (values .entry)) (now (levels .entry)) (now (reasons .entry)) (now (trail .entry)) (now (opened .entry)) (now (activity .entry)) (now (heap .entry)) (now (indices .entry)) (now (decision .entry)) s)
         (callIn (now (line .entry))))
@@ -55,9 +89,11 @@ fn line_call(
         (r .reply)
         (sessionOf n m (now (lits .entry)) (now (ends .entry)) (now (values .exit)) (now (levels .exit)) (now (reasons .exit)) (now (trail .exit)) (now (opened .exit)) (now (activity .exit)) (now (heap .exit)) (now (indices .exit)) (now (decision .exit)) (r .state)) ⌝ }
 {
-    match forms::read_call(line, vars) {
+    let none = [0u32; 0];
+    match forms::read_call(line) {
         Read::Bad => heap_calls::refuse(BAD_LINE, s),
-        Read::Is(call, k) => {
+        Read::Group => group_line(line, n, s),
+        Read::Is(call) => {
             heap_mode::step(
                 n,
                 m,
@@ -74,7 +110,7 @@ fn line_call(
                 decision,
                 s,
                 call,
-                &vars[..k],
+                &none,
             )
         }
     }
@@ -96,12 +132,10 @@ fn next_line(
     heap: &mut [u32],
     indices: &mut [u32],
     decision: &mut [bool],
-    vars: &mut [u32],
     s: HeapPlace,
 ) -> HeapPlace
     requires { ⌜ Room (now sheet) (s .place) (now out) × (0 < s .place .left) ⌝ }
     requires { ⌜ GoodSession n (length (now ends)) (now lits) (now ends) (trailOf (now values) (now levels) (now reasons) (now trail) (now opened) (s .state .trail)) (vsidsOf (now activity) (now heap) (now indices) (now decision) (s .state .vsids)) ⌝ }
-    requires { ⌜ length (now vars) ≡ number.maxGroup ⌝ }
     ensures { λ r. ⌜ r .place .left < s .place .left ⌝ }
     ensures { λ r. ⌜ HeapAlong n (now (lits .entry)) (now (ends .entry)) (now (sheet .entry))
         (s .place)
@@ -130,7 +164,6 @@ fn next_line(
         indices,
         decision,
         s.state,
-        vars,
     );
     let at = sheet::answer(out, p.at, p.line, a.status, a.reply);
     let q = sheet::behind(p, end, at);
@@ -154,12 +187,10 @@ pub fn heap_lines(
     heap: &mut [u32],
     indices: &mut [u32],
     decision: &mut [bool],
-    vars: &mut [u32],
     s: HeapPlace,
 ) -> usize
     requires { ⌜ Room (now sheet) (s .place) (now out) ⌝ }
     requires { ⌜ GoodSession n (length (now ends)) (now lits) (now ends) (trailOf (now values) (now levels) (now reasons) (now trail) (now opened) (s .state .trail)) (vsidsOf (now activity) (now heap) (now indices) (now decision) (s .state .vsids)) ⌝ }
-    requires { ⌜ length (now vars) ≡ number.maxGroup ⌝ }
     ensures { λ r. ⌜ Ended (now (sheet .entry)) (s .place)
         (inHeap n (now (lits .entry)) (now (ends .entry)) (sessionOf n (length (now (ends .entry))) (now (lits .entry)) (now (ends .entry)) (now (values .entry)) (now (levels .entry)) (now (reasons .entry)) (now (trail .entry)) (now (opened .entry)) (now (activity .entry)) (now (heap .entry)) (now (indices .entry)) (now (decision .entry)) (s .state)))
         (now (out .entry))
@@ -183,7 +214,6 @@ pub fn heap_lines(
             heap,
             indices,
             decision,
-            vars,
             u,
         );
     }
