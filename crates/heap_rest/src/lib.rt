@@ -56,13 +56,11 @@ fn heap_session(
     heap: &mut [u32],
     indices: &mut [u32],
     decision: &mut [bool],
-    vars: &mut [u32],
     p: Place,
 ) -> usize
     requires { ⌜ Room (now sheet) p (now out) × (n ≤ number.maxVars) × GoodClauses n (now lits) (now ends) ⌝ }
     requires { ⌜ Lengths n (now values) (now levels) (now reasons) (now trail) (now opened) ⌝ }
     requires { ⌜ (length (now activity) ≡ n) × (length (now heap) ≡ n) × (length (now indices) ≡ n) × (length (now decision) ≡ n) ⌝ }
-    requires { ⌜ length (now vars) ≡ number.maxGroup ⌝ }
     ensures { λ r. ⌜ Ended (now (sheet .entry)) p (spec.opened vsids n (now (lits .entry)) (now (ends .entry))) (now (out .entry)) r (now (out .exit)) ⌝ }
 {
     let s = start(
@@ -106,7 +104,6 @@ fn heap_session(
         heap,
         indices,
         decision,
-        vars,
         HeapPlace { place: p, state: s },
     )
 }
@@ -136,7 +133,6 @@ fn few(
     let mut activity = [0.0; FEW as usize];
     let mut heap = [NONE; FEW as usize];
     let mut decision = [true; FEW as usize];
-    let mut vars = [NONE; 2048];
     heap_session(
         sheet,
         out,
@@ -152,7 +148,6 @@ fn few(
         &mut heap[..k],
         &mut positions[..k],
         &mut decision[..k],
-        &mut vars,
         p,
     )
 }
@@ -179,7 +174,6 @@ fn many(
     let mut activity = [0.0; 2048];
     let mut heap = [NONE; 2048];
     let mut decision = [true; 2048];
-    let mut vars = [NONE; 2048];
     heap_session(
         sheet,
         out,
@@ -195,12 +189,11 @@ fn many(
         &mut heap[..k],
         &mut positions[..k],
         &mut decision[..k],
-        &mut vars,
         p,
     )
 }
 
-// Does the lines from a place on, and gives the place behind their answers. The positions are the heap's.
+// Does the lines from a place on, and gives the place behind their answers. Without a line no session is made. The positions are the heap's.
 pub fn rest(
     sheet: &[u8],
     out: &mut [u8],
@@ -213,6 +206,9 @@ pub fn rest(
     requires { ⌜ Room (now sheet) p (now out) × (n ≤ number.maxVars) × GoodClauses n (now lits) (now ends) × (length (now positions) ≡ number.maxVars) ⌝ }
     ensures { λ r. ⌜ Ended (now (sheet .entry)) p (spec.opened vsids n (now (lits .entry)) (now (ends .entry))) (now (out .entry)) r (now (out .exit)) ⌝ }
 {
+    if p.left == 0 {
+        return p.at;
+    }
     if n <= FEW {
         return few(sheet, out, positions, n, lits, ends, p);
     }

@@ -42,6 +42,10 @@ module _ {S : Type 0} {Good : S → Type 0} {stage : S → Stage} {sheet : List 
         count = omega (arith, a .end .count, ap (λ (ls : List (List ℕ)). length (answers (q .line) (stage u) ls)) e);
       }
 
+-- where no line is left, a run has ended, and the buffer stays
+pub nothing-left : {sheet out : List ℕ} {p : Place} (stage : Stage) → Room sheet p out → p .left ≡ 0 → Ended sheet p stage out (p .at) out
+nothing-left {p = p} stage room over = along-over {Good = λ (s : Stage). p .left ≡ 0} {stage = λ (s : Stage). s} (along-none {s = stage} room over) over
+
 -- what the result of a line says of a session, it says of the stage
 module _ {S : Type 0} (stage : S → Stage) where
   staged-status : (x : Result S) → status (staged stage x) ≡ status x

@@ -1,5 +1,5 @@
 -- `heap_rest::many` meets its contract: the parts of the local arrays and of the positions that are lent have length n.
-use mathlib.Core.Path.{refl, sym}
+use mathlib.Core.Path.{sym}
 use native.Mathlib.Omega.{arith}
 use lib.Seq.{length-take-le}
 use borrow.Author.Needs.{needs}
@@ -35,7 +35,7 @@ slice-aggregate-heap-session-9 c = sym (length-take-le (c .before .before .befor
 
 heap-session-requires : tie.Need-heap-session-requires
 heap-session-requires c κs =
-    let s = c .before .before .before .before .before .before .before .before .before .before .before .before .before .before .before .before in
+    let s = c .before .before .before .before .before .before .before .before .before .before .before .before .before .before .before in
     let n = s .args .n in
     let small = s .pre .1 in (
       (s .pre .0, small, s .pre .2),
@@ -48,13 +48,10 @@ heap-session-requires c κs =
           opened-long = length-take-le n _ small;
         },
         (
-          (
-            length-take-le n _ small,
-            length-take-le n _ small,
-            length-take-le n (s .args .positions .now) (omega (arith, small, s .pre .3)),
-            length-take-le n _ small,
-          ),
-          refl,
+          length-take-le n _ small,
+          length-take-le n _ small,
+          length-take-le n (s .args .positions .now) (omega (arith, small, s .pre .3)),
+          length-take-le n _ small,
         ),
       ),
     )
@@ -81,7 +78,6 @@ many-spec =
     slice-aggregate-heap-session-8
     (λ c. search needs)
     slice-aggregate-heap-session-9
-    (λ c. search needs)
     heap-session-requires
     (λ c. search needs)
     (λ c. search needs)
