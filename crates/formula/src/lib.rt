@@ -2,7 +2,7 @@
 use lit::MAX_CLAUSES;
 use lit::MAX_LITERALS;
 ghost use mathlib.Core.Path.{_≡_};
-ghost use Prim.Native.Nat.{_+_, _*_, _/_, _≤_, _<_};
+ghost use Prim.Native.Nat.{_<_};
 ghost use lib.ListN.{length};
 ghost use Rattle.formula.specs.Clauses as spec;
 
