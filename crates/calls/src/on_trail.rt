@@ -143,7 +143,7 @@ pub fn learn_unit(
     if k != 0 {
         return refuse(k, s);
     }
-    let t = trail::learn_unit(values, levels, reasons, trail, opened, s, code);
+    let t = trail_back::learn_unit(values, levels, reasons, trail, opened, s, code);
     accept(NONE, t)
 }
 
@@ -165,6 +165,6 @@ pub fn go_back(
         (r .reply)
         (trailOf (now (values .exit)) (now (levels .entry)) (now (reasons .exit)) (now (trail .exit)) (now (opened .exit)) (r .state)) ⌝ }
 {
-    let t = trail::backtrack_safe(values, levels, reasons, trail, opened, s, level);
+    let t = trail_back::backtrack_safe(values, levels, reasons, trail, opened, s, level);
     accept(s.len - t.len, t)
 }

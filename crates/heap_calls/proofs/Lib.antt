@@ -1,4 +1,3 @@
--- What the proofs of the calls need: going back in heap mode, what was found, and the answer of each outcome of a call.
-pub mod Going
+-- What the proofs of the calls need: what was found, and the answer of each outcome of a call.
 pub mod Needed
 pub mod Outcomes

@@ -1,6 +1,5 @@
--- The answer of each outcome of a decay, of bumping a reason and of going back in heap mode: the tests that led there decide the call's
--- definition.
-use Prim.Native.Nat.{ℕ, _-_, _<_}
+-- The answer of each outcome of a decay and of bumping a reason in heap mode: the tests that led there decide the call's definition.
+use Prim.Native.Nat.{ℕ, _<_}
 use mathlib.Core.Path.{_≡_, refl}
 use mathlib.Core.Bool.{true, false}
 use mathlib.Core.List.{List}
@@ -12,8 +11,8 @@ use Rattle.activity.specs.Step.{largeStep}
 use Rattle.formula.specs.Clauses.{clause}
 use Rattle.vsids.specs.Vsids.{Vsids, decayVarInc, bumpReasonLiterals}
 use Rattle.choosers.specs.Heap.{heapOps}
-use Rattle.book.specs.Calls.{Call, decay, goBack, bumpReason}
-use Rattle.book.specs.Session.{Session, need, tuned, wentBack, call}
+use Rattle.book.specs.Calls.{Call, decay, bumpReason}
+use Rattle.book.specs.Session.{Session, need, tuned, call}
 use Rattle.calls.specs.Entry.{Answered}
 use Rattle.calls.specs.Outcomes.{finished, rechosen}
 
@@ -38,7 +37,3 @@ module _ (n m : ℕ) (lits ends : List ℕ) (s : Session n m (heapOps n lits end
     pub reason-bumped : (r ≡ NONE → ⊥) → (h : Vsids) → h ≡ bumpReasonLiterals (clause lits ends r) (s .chooser) → Gives (bumpReason v) 0 NONE (record { trail = s .trail; chooser = h })
     unfolding call need tuned
     reason-bumped e h q = rw (lt-ltb v n b, at, ne-eqb r NONE e) (rechosen q)
-
-  pub gone-back : (l : ℕ) (u : Session n m (heapOps n lits ends)) → u ≡ wentBack n m (heapOps n lits ends) l s → Gives (goBack l) 0 (s .trail .len - u .trail .len) u
-  unfolding call
-  gone-back l u q = rw q (record { status = refl; reply = refl; session = refl })

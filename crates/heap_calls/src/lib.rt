@@ -7,7 +7,6 @@ use trail::TrailState;
 use vsids::VsidsState;
 
 pub mod order;
-pub mod search;
 
 // The small states of the trail and of the heap.
 pub struct HeapState {

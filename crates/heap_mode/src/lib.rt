@@ -14,7 +14,6 @@ use calls::on_trail::TrailAnswer;
 use heap_calls::HeapAnswer;
 use heap_calls::HeapState;
 use heap_calls::order;
-use heap_calls::search;
 use vsids::VsidsState;
 
 // What a call on the trail alone answers; the heap stays.
@@ -63,7 +62,7 @@ pub fn step(
         Call::Insert(v) => order::insert(n, activity, heap, indices, decision, s, v),
         Call::SwitchOff(v) => order::switch_off(n, decision, s, v),
         Call::Decide(p) => {
-            search::decide(
+            heap_search::decide(
                 values,
                 levels,
                 reasons,
@@ -93,7 +92,7 @@ pub fn step(
             with_heap(a, h)
         }
         Call::LearnUnit(code) => {
-            search::learn_unit(
+            heap_search::learn_unit(
                 n,
                 values,
                 levels,
@@ -109,7 +108,7 @@ pub fn step(
             )
         }
         Call::GoBack(level) => {
-            search::go_back(
+            heap_search::go_back(
                 values,
                 levels,
                 reasons,

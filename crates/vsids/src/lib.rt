@@ -48,7 +48,7 @@ pub fn new(
         decision[i] = true;
         i += 1;
     }
-    heap::build(activity, heap, indices);
+    heap_members::build(activity, heap, indices);
     VsidsState {
         len: n as u32,
         step: Step::fresh(),
@@ -79,7 +79,7 @@ pub fn get_next(
     let step = s.step;
     let mut len = s.len;
     while len > 0 {
-        let v = heap::remove_min(activity, heap, indices, len);
+        let v = heap_members::remove_min(activity, heap, indices, len);
         len -= 1;
         if is_open(values, decision, v) {
             return Next::Chose(v, VsidsState { len, step });
@@ -120,8 +120,8 @@ pub fn bump_variable(
     ensures { λ r. ⌜ ((d : List Bool) → vsidsOf (now (activity .exit)) (now (heap .exit)) (now (indices .exit)) d r ≡ spec.bumpVariable var (vsidsOf (now (activity .entry)) (now (heap .entry)) (now (indices .entry)) d s)) ⌝ }
 {
     let raised = add_step(activity, s, var);
-    if heap::in_heap(indices, var) {
-        heap::decrease(activity, heap, indices, var);
+    if heap_members::in_heap(indices, var) {
+        heap_members::decrease(activity, heap, indices, var);
     }
     raised
 }
@@ -164,8 +164,8 @@ pub fn insert(
 {
     let step = s.step;
     let mut len = s.len;
-    if !heap::in_heap(indices, var) && decision[var as usize] {
-        heap::insert(activity, heap, indices, len, var);
+    if !heap_members::in_heap(indices, var) && decision[var as usize] {
+        heap_members::insert(activity, heap, indices, len, var);
         len += 1;
     }
     VsidsState { len, step }

@@ -1,0 +1,5 @@
+-- The three checks of the source.
+pub mod Checks
+pub mod Marks
+pub mod Distinct
+pub mod CaseL

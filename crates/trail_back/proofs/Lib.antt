@@ -1,0 +1,2 @@
+-- Lemmas that the proofs of going back cite.
+pub mod Going
