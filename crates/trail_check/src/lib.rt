@@ -124,12 +124,13 @@ fn places_ok(values: &[u8], trail: &[u32], len: u32, marks: &mut [bool]) -> bool
     true
 }
 
-// Whether the variable is unassigned or marked.
+// Whether the variable is unassigned or marked: its value is at least 2, or any if it is marked.
 fn covered(values: &[u8], marks: &[bool], v: usize) -> bool
     requires { ⌜ (v < length (now values)) × (v < length (now marks)) ⌝ }
     ensures { λ r. ⌜ r ≡ spec.coveredAt (now (values .entry)) (now (marks .entry)) v ⌝ }
 {
-    values[v] >= UNASSIGNED || marks[v]
+    let least = if marks[v] { 0 } else { UNASSIGNED };
+    values[v] >= least
 }
 
 // Whether every variable is so: every assigned one is marked.
@@ -137,14 +138,15 @@ fn covered_ok(values: &[u8], marks: &[bool]) -> bool
     requires { ⌜ length (now values) ≤ length (now marks) ⌝ }
     ensures { λ r. ⌜ r ≡ spec.coveredOk (now (values .entry)) (now (marks .entry)) ⌝ }
 {
+    let mut ok = true;
     let mut v = 0;
     while v < values.len() {
         if !covered(values, marks, v) {
-            return false;
+            ok = false;
         }
         v += 1;
     }
-    true
+    ok
 }
 
 // Whether the trail holds literals of variables that hold, each assigned variable once.
@@ -192,13 +194,16 @@ fn levels_ok(levels: &[u32], trail: &[u32], opened: &[u32], level: u32, len: u32
     true
 }
 
-// Whether every variable has a good value and a good reason.
+// Whether every variable has a good value and a good reason. No reason at all, which is seen fastest, is good.
 fn check_variables(m: u32, values: &[u8], reasons: &[u32]) -> bool
     requires { ⌜ length (now reasons) ≡ length (now values) ⌝ }
     ensures { λ r. ⌜ r ≡ (spec.valuesOk (now (values .entry)) && spec.reasonsOk m (now (values .entry)) (now (reasons .entry))) ⌝ }
 {
     if !values_ok(values) {
         return false;
+    }
+    if unused_ok(reasons, 0) {
+        return true;
     }
     reasons_ok(m, values, reasons)
 }

@@ -30,7 +30,8 @@ pub enum Next {
     Nothing(VsidsState),
 }
 
-// A fresh chooser: activities 0, all variables members and switched on, the fresh step.
+// A fresh chooser: activities 0, all variables members and switched on, the fresh step. Where all activities are equal, members in
+// order of their numbers are a heap.
 pub fn new(
     activity: &mut [f64],
     heap: &mut [u32],
@@ -45,10 +46,11 @@ pub fn new(
     let mut i = 0;
     while i < n {
         activity[i] = ZERO_ACTIVITY;
+        heap[i] = i as u32;
+        indices[i] = i as u32;
         decision[i] = true;
         i += 1;
     }
-    heap_members::build(activity, heap, indices);
     VsidsState {
         len: n as u32,
         step: Step::fresh(),

@@ -1,2 +1,3 @@
 -- Laws that only this crate's proofs cite.
 pub mod Branches
+pub mod Full

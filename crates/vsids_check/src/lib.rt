@@ -48,8 +48,23 @@ fn places_ok(activity: &[f64], heap: &[u32], indices: &[u32], len: u32) -> bool
     true
 }
 
-// Whether a variable is good: its activity in range, its position that of a member, or NONE where the variable is not open.
-fn variable_ok(
+// Whether every activity is in range. Those that are not are counted, a sum that needs no branch.
+fn activities_ok(activity: &[f64]) -> bool
+    ensures { λ r. ⌜ r ≡ every (check.activityOk (now (activity .entry))) (length (now (activity .entry))) ⌝ }
+{
+    let mut outside = 0u64;
+    let mut v = 0;
+    while v < activity.len() {
+        if !activity::within(MAX_ACTIVITY, activity[v]) {
+            outside += 1;
+        }
+        v += 1;
+    }
+    outside == 0
+}
+
+// Whether a variable's position is that of a member, or NONE where the variable is not open.
+fn position_ok(
     values: &[u8],
     activity: &[f64],
     heap: &[u32],
@@ -60,11 +75,8 @@ fn variable_ok(
 ) -> bool
     requires { ⌜ SameLengths (length (now activity)) (now values) (now heap) (now indices) (now decision) ⌝ }
     requires { ⌜ (s .len ≤ length (now activity)) × (v < length (now activity)) ⌝ }
-    ensures { λ r. ⌜ r ≡ check.variableOk (now (values .entry)) (vsidsOf (now (activity .entry)) (now (heap .entry)) (now (indices .entry)) (now (decision .entry)) s) v ⌝ }
+    ensures { λ r. ⌜ r ≡ check.positionOk (now (values .entry)) (vsidsOf (now (activity .entry)) (now (heap .entry)) (now (indices .entry)) (now (decision .entry)) s) v ⌝ }
 {
-    if !activity::within(MAX_ACTIVITY, activity[v]) {
-        return false;
-    }
     let p = indices[v];
     let len = s.len;
     if p == NONE {
@@ -76,8 +88,8 @@ fn variable_ok(
     heap[p as usize] == v as u32
 }
 
-// Whether every variable is good.
-fn variables_ok(
+// Whether every variable's position is so.
+fn positions_ok(
     values: &[u8],
     activity: &[f64],
     heap: &[u32],
@@ -87,11 +99,11 @@ fn variables_ok(
 ) -> bool
     requires { ⌜ SameLengths (length (now activity)) (now values) (now heap) (now indices) (now decision) ⌝ }
     requires { ⌜ s .len ≤ length (now activity) ⌝ }
-    ensures { λ r. ⌜ r ≡ every (check.variableOk (now (values .entry)) (vsidsOf (now (activity .entry)) (now (heap .entry)) (now (indices .entry)) (now (decision .entry)) s)) (length (now (activity .entry))) ⌝ }
+    ensures { λ r. ⌜ r ≡ every (check.positionOk (now (values .entry)) (vsidsOf (now (activity .entry)) (now (heap .entry)) (now (indices .entry)) (now (decision .entry)) s)) (length (now (activity .entry))) ⌝ }
 {
     let mut v = 0;
     while v < activity.len() {
-        if !variable_ok(values, activity, heap, indices, decision, s, v) {
+        if !position_ok(values, activity, heap, indices, decision, s, v) {
             return false;
         }
         v += 1;
@@ -99,7 +111,7 @@ fn variables_ok(
     true
 }
 
-// Whether lent memory is a good heap for these values.
+// Whether lent memory is a good heap for these values. Where every variable is a member, good places leave no position to be tested.
 pub fn check_heap(
     values: &[u8],
     activity: &[f64],
@@ -122,5 +134,11 @@ pub fn check_heap(
     if !places_ok(activity, heap, indices, len) {
         return false;
     }
-    variables_ok(values, activity, heap, indices, decision, s)
+    if !activities_ok(activity) {
+        return false;
+    }
+    if len as usize == activity.len() {
+        return true;
+    }
+    positions_ok(values, activity, heap, indices, decision, s)
 }

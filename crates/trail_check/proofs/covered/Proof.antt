@@ -1,15 +1,12 @@
--- `trail_check::covered` meets its contract, by its tests.
+-- `trail_check::covered` meets its contract: of a marked variable every value passes.
+use mathlib.Core.Logic.{⊎-elim}
 use borrow.Author.Needs.{needs}
-use borrow.Author.Tests.{le-leb, lt-leb}
+use Rattle.trail_check.proofs.Marks.{any-value, unassigned-value}
 use Rattle.trail_check.proofs.covered.Statement.{statement}
 use Rattle.trail_check.proofs.covered.Tie as tie
 
 returns : tie.Need-returns
-returns c = rw (le-leb _ _ (c .if1 .taken))
-
-returns-2 : tie.Need-returns-2
-returns-2 c = rw (lt-leb _ _ (c .before .if1 .left))
+returns c = ⊎-elim (λ w. any-value _ (w .1) (w .0 .taken)) (λ w. unassigned-value _ (w .1) (w .0 .left)) (c .before .if1 .came)
 
 pub covered-spec : {M : Type 1} → statement M
-covered-spec =
-    tie.close (tie.spec (λ c. search needs) (λ c. search needs) returns returns-2)
+covered-spec = tie.close (tie.spec (λ c. search needs) (λ c. search needs) returns)
