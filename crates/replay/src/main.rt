@@ -5,7 +5,7 @@ use libc::STDOUT_FILENO;
 
 // Runs one sheet.
 fn one(sheet: &[u8]) {
-    let mut answers = [0u8; 65536];
+    let mut answers = io::large_buffer();
     let mut positions = [4294967295u32; 2048];
     let k = desk::print(sheet, &mut answers, &mut positions);
     io::write_all(STDOUT_FILENO, &answers[..k]);
