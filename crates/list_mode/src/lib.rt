@@ -109,7 +109,7 @@ fn decide(
 }
 
 // Moves a group to the front of the list. The stamps and the order are scratch.
-fn group(
+pub fn group(
     n: u32,
     next: &mut [u32],
     prev: &mut [u32],

@@ -16,24 +16,29 @@ use Rattle.list_entry.specs.Entry.{stateOk}
 use Rattle.list_entry.specs.Checked.{state-right}
 use Rattle.forms.specs.Forms.{vmtf}
 use Rattle.sheet.specs.declared.Place.{Place}
-use Rattle.sheet.specs.Sheet.{inList, opened}
-use Rattle.sheet.specs.Running.{Ended}
+use Rattle.sheet.specs.Sheet.{Stage, inList, opened}
+use Rattle.sheet.specs.Running.{Room, Ended}
+use Rattle.sheet.specs.SessionLines.{along-none, along-over}
 
 -- the literals of a good clause list are what creation needs
-pub start-literals : {n : ℕ} {lits ends : List ℕ} → GoodClauses n lits ends → Literals n lits
-start-literals g = record { few = omega (arith, g .list .few-literals); vars = g .below }
+pub clause-literals : {n : ℕ} {lits ends : List ℕ} → GoodClauses n lits ends → Literals n lits
+clause-literals g = record { few = omega (arith, g .list .few-literals); vars = g .below }
 
 module _ {n : ℕ} (lits : List ℕ) (small : n ≤ maxVars) {t : Trail} {l : Vmtf} (et : t ≡ freshTrail n) (el : l ≡ new n lits) where
-  pub start-good : (m : ℕ) → GoodSession n m t l
+  pub started-good : (m : ℕ) → GoodSession n m t l
   unfolding fresh
-  start-good m = rw (et, el) (fresh-good-session n m lits small)
+  started-good m = rw (et, el) (fresh-good-session n m lits small)
 
-  pub start-checked : (m : ℕ) → stateOk m t l ≡ true
-  start-checked m =
-      let g = start-good m in
+  pub started-passes : (m : ℕ) → stateOk m t l ≡ true
+  started-passes m =
+      let g = started-good m in
       state-right n m t l small (g .trail .lengths)
       (record { next-long = g .list .1 .linked .next-long; prev-long = g .list .1 .linked .prev-long; ts-long = g .list .1 .ts-long }) .1 g
 
-  pub start-ended : (ends : List ℕ) {sheet out out′ : List ℕ} {p : Place} {r : ℕ} → Ended sheet p (inList n lits ends (record { trail = t; chooser = l })) out r out′ → Ended sheet p (opened vmtf n lits ends) out r out′
+  pub started-ended : (ends : List ℕ) {sheet out out′ : List ℕ} {p : Place} {r : ℕ} → Ended sheet p (inList n lits ends (record { trail = t; chooser = l })) out r out′ → Ended sheet p (opened vmtf n lits ends) out r out′
   unfolding fresh
-  start-ended ends e = rw (et, el) at e
+  started-ended ends e = rw (et, el) at e
+
+-- where no line is left, a run has ended, and the buffer stays
+pub nothing-left : {sheet out : List ℕ} {p : Place} (stage : Stage) → Room sheet p out → p .left ≡ 0 → Ended sheet p stage out (p .at) out
+nothing-left {p = p} stage room none = along-over {Good = λ (s : Stage). p .left ≡ 0} {stage = λ (s : Stage). s} (along-none {s = stage} room none) none

@@ -18,14 +18,14 @@ use lit::NONE;
 use lit::UNASSIGNED;
 use sheet::Place;
 
-// The small states of a fresh session, and whether it passed its check.
-pub struct Begun {
+// The states of a fresh session, and whether they passed their check.
+pub struct Started {
     pub state: ListState,
     pub good: bool,
 }
 
-// Makes a session fresh in slices of length n, for m clauses, and checks it. The variables and the order are scratch.
-fn begin(
+// The states of a fresh session in slices of length n, for m clauses, checked. Creation takes the levels and the reasons as scratch, before the trail fills them.
+fn start(
     n: u32,
     m: u32,
     lits: &[u32],
@@ -37,18 +37,15 @@ fn begin(
     next: &mut [u32],
     prev: &mut [u32],
     ts: &mut [u64],
-    vars: &mut [u32],
-    order: &mut [u32],
-) -> Begun
+) -> Started
     requires { ⌜ Lengths n (now values) (now levels) (now reasons) (now trail) (now opened) × (length (now next) ≡ n) × (length (now prev) ≡ n) × (length (now ts) ≡ n) ⌝ }
-    requires { ⌜ (n ≤ number.maxVars) × Literals n (now lits) × (n ≤ length (now vars)) × (n ≤ length (now order)) ⌝ }
+    requires { ⌜ (n ≤ number.maxVars) × Literals n (now lits) ⌝ }
     ensures { λ r. ⌜ trailOf (now (values .exit)) (now (levels .exit)) (now (reasons .exit)) (now (trail .exit)) (now (opened .exit)) (r .state .trail) ≡ freshTrail n ⌝ }
     ensures { λ r. ⌜ vmtfOf (now (next .exit)) (now (prev .exit)) (now (ts .exit)) (r .state .vmtf) ≡ vmtf-spec.new n (now (lits .entry)) ⌝ }
     ensures { λ r. ⌜ r .good ≡ true ⌝ }
 {
-    let k = n as usize;
+    let l = vmtf_new::new(lits, next, prev, ts, levels, reasons);
     let t = trail::new_trail(values, levels, reasons, trail, opened);
-    let l = vmtf_new::new(lits, next, prev, ts, &mut vars[..k], &mut order[..k]);
     let s = ListState { trail: t, vmtf: l };
     let good = list_entry::check_state(
         m,
@@ -62,13 +59,13 @@ fn begin(
         ts,
         s,
     );
-    Begun {
+    Started {
         state: s,
         good: good,
     }
 }
 
-// The same in memory that is lent, slices of length n. The variables, stamps and order are scratch.
+// Does the lines of a session from a fresh one on and answers them, and gives the place behind the answers.
 fn list_session(
     sheet: &[u8],
     out: &mut [u8],
@@ -83,17 +80,13 @@ fn list_session(
     next: &mut [u32],
     prev: &mut [u32],
     ts: &mut [u64],
-    vars: &mut [u32],
-    stamps: &mut [u64],
-    order: &mut [u32],
     p: Place,
 ) -> usize
     requires { ⌜ Room (now sheet) p (now out) × (n ≤ number.maxVars) × GoodClauses n (now lits) (now ends) ⌝ }
     requires { ⌜ Lengths n (now values) (now levels) (now reasons) (now trail) (now opened) × (length (now next) ≡ n) × (length (now prev) ≡ n) × (length (now ts) ≡ n) ⌝ }
-    requires { ⌜ (length (now vars) ≡ number.maxGroup) × (length (now stamps) ≡ number.maxGroup) × (length (now order) ≡ number.maxGroup) ⌝ }
     ensures { λ r. ⌜ Ended (now (sheet .entry)) p (spec.opened vmtf n (now (lits .entry)) (now (ends .entry))) (now (out .entry)) r (now (out .exit)) ⌝ }
 {
-    let b = begin(
+    let a = start(
         n,
         ends.len() as u32,
         lits,
@@ -105,13 +98,11 @@ fn list_session(
         next,
         prev,
         ts,
-        vars,
-        order,
     );
-    if !b.good {
+    if !a.good {
         return p.at;
     }
-    let s = b.state;
+    let s = a.state;
     list_run::list_lines(
         sheet,
         out,
@@ -125,9 +116,6 @@ fn list_session(
         next,
         prev,
         ts,
-        vars,
-        stamps,
-        order,
         ListPlace { place: p, state: s },
     )
 }
@@ -149,9 +137,6 @@ fn few(sheet: &[u8], out: &mut [u8], n: u32, lits: &[u32], ends: &[u32], p: Plac
     let mut next = [NONE; FEW as usize];
     let mut prev = [NONE; FEW as usize];
     let mut ts = [0u64; FEW as usize];
-    let mut vars = [NONE; 2048];
-    let mut stamps = [0u64; 2048];
-    let mut order = [NONE; 2048];
     list_session(
         sheet,
         out,
@@ -166,9 +151,6 @@ fn few(sheet: &[u8], out: &mut [u8], n: u32, lits: &[u32], ends: &[u32], p: Plac
         &mut next[..k],
         &mut prev[..k],
         &mut ts[..k],
-        &mut vars,
-        &mut stamps,
-        &mut order,
         p,
     )
 }
@@ -187,9 +169,6 @@ fn many(sheet: &[u8], out: &mut [u8], n: u32, lits: &[u32], ends: &[u32], p: Pla
     let mut next = [NONE; 2048];
     let mut prev = [NONE; 2048];
     let mut ts = [0u64; 2048];
-    let mut vars = [NONE; 2048];
-    let mut stamps = [0u64; 2048];
-    let mut order = [NONE; 2048];
     list_session(
         sheet,
         out,
@@ -204,18 +183,18 @@ fn many(sheet: &[u8], out: &mut [u8], n: u32, lits: &[u32], ends: &[u32], p: Pla
         &mut next[..k],
         &mut prev[..k],
         &mut ts[..k],
-        &mut vars,
-        &mut stamps,
-        &mut order,
         p,
     )
 }
 
-// Does the lines from a place on, and gives the place behind their answers.
+// Does the lines from a place on, and gives the place behind their answers. Where none is left, no session is made.
 pub fn rest(sheet: &[u8], out: &mut [u8], n: u32, lits: &[u32], ends: &[u32], p: Place) -> usize
     requires { ⌜ Room (now sheet) p (now out) × (n ≤ number.maxVars) × GoodClauses n (now lits) (now ends) ⌝ }
     ensures { λ r. ⌜ Ended (now (sheet .entry)) p (spec.opened vmtf n (now (lits .entry)) (now (ends .entry))) (now (out .entry)) r (now (out .exit)) ⌝ }
 {
+    if p.left == 0 {
+        return p.at;
+    }
     if n <= FEW {
         return few(sheet, out, n, lits, ends, p);
     }

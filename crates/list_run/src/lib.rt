@@ -9,15 +9,18 @@ ghost use Rattle.vmtf.specs.Vmtf.{vmtfOf};
 ghost use Rattle.choosers.specs.List.{listOps};
 ghost use Rattle.calls.specs.Entry.{Answered};
 ghost use Rattle.list_mode.specs.Memory.{sessionOf};
-ghost use Rattle.list_mode.specs.Good.{GoodSession};
+ghost use Rattle.list_mode.specs.Good.{InOrder, GoodSession};
 ghost use Rattle.forms.specs.Forms.{callIn};
+ghost use Rattle.forms.specs.Read.{Fits, groupOn};
 ghost use Rattle.sheet.specs.Sheet.{called, inList};
 ghost use Rattle.sheet.specs.Running.{Room, Ended};
 ghost use Rattle.list_run.specs.Lines.{ListAlong};
+use forms::Count;
 use forms::Read;
 use list_mode::ListAnswer;
 use list_mode::ListState;
 use lit::BAD_LINE;
+use lit::NONE;
 use sheet::Place;
 use text::NEWLINE;
 
@@ -27,7 +30,97 @@ pub struct ListPlace {
     pub state: ListState,
 }
 
-// A line on a good session: the call that it is, or refusal 3. The variables, stamps and order are scratch.
+// Moves the group that a line is to the front of the list, or refusal 3. The variables, stamps and order are scratch.
+fn group_with(
+    line: &[u8],
+    n: u32,
+    next: &mut [u32],
+    prev: &mut [u32],
+    ts: &mut [u64],
+    s: ListState,
+    vars: &mut [u32],
+    stamps: &mut [u64],
+    order: &mut [u32],
+) -> ListAnswer
+    requires { ⌜ InOrder n (vmtfOf (now next) (now prev) (now ts) (s .vmtf)) ⌝ }
+    requires { ⌜ Fits (now line) (now vars) × (length (now stamps) ≡ length (now vars)) × (length (now order) ≡ length (now vars)) ⌝ }
+    ensures { λ r. ⌜ ((m : ℕ) (lits values levels reasons trail opened : List ℕ) → Answered (called n m (listOps n lits)
+        (sessionOf n m lits values levels reasons trail opened (now (next .entry)) (now (prev .entry)) (now (ts .entry)) s)
+        (groupOn (now (line .entry))))
+        (sessionOf n m lits values levels reasons trail opened (now (next .entry)) (now (prev .entry)) (now (ts .entry)) s)
+        (r .status)
+        (r .reply)
+        (sessionOf n m lits values levels reasons trail opened (now (next .exit)) (now (prev .exit)) (now (ts .exit)) (r .state))) ⌝ }
+{
+    let Count::Are(k) = forms::read_group(line, vars) else {
+        return list_mode::refuse(BAD_LINE, s);
+    };
+    list_mode::group(
+        n,
+        next,
+        prev,
+        ts,
+        s,
+        &vars[..k],
+        &mut stamps[..k],
+        &mut order[..k],
+    )
+}
+
+// So many variables are few: a line of at most twice as many bytes has no more, and short scratch is set up sooner.
+const FEW: usize = 64;
+
+// The same with scratch of its own, as long as the line may need.
+fn group_line(
+    line: &[u8],
+    n: u32,
+    next: &mut [u32],
+    prev: &mut [u32],
+    ts: &mut [u64],
+    s: ListState,
+) -> ListAnswer
+    requires { ⌜ InOrder n (vmtfOf (now next) (now prev) (now ts) (s .vmtf)) ⌝ }
+    ensures { λ r. ⌜ ((m : ℕ) (lits values levels reasons trail opened : List ℕ) → Answered (called n m (listOps n lits)
+        (sessionOf n m lits values levels reasons trail opened (now (next .entry)) (now (prev .entry)) (now (ts .entry)) s)
+        (groupOn (now (line .entry))))
+        (sessionOf n m lits values levels reasons trail opened (now (next .entry)) (now (prev .entry)) (now (ts .entry)) s)
+        (r .status)
+        (r .reply)
+        (sessionOf n m lits values levels reasons trail opened (now (next .exit)) (now (prev .exit)) (now (ts .exit)) (r .state))) ⌝ }
+{
+    if line.len() <= 2 * FEW {
+        let mut vars = [NONE; FEW];
+        let mut stamps = [0u64; FEW];
+        let mut order = [NONE; FEW];
+        return group_with(
+            line,
+            n,
+            next,
+            prev,
+            ts,
+            s,
+            &mut vars,
+            &mut stamps,
+            &mut order,
+        );
+    }
+    let mut vars = [NONE; 2048];
+    let mut stamps = [0u64; 2048];
+    let mut order = [NONE; 2048];
+    group_with(
+        line,
+        n,
+        next,
+        prev,
+        ts,
+        s,
+        &mut vars,
+        &mut stamps,
+        &mut order,
+    )
+}
+
+// A line on a good session: the call that it is, or refusal 3.
 fn line_call(
     line: &[u8],
     n: u32,
@@ -41,12 +134,8 @@ fn line_call(
     prev: &mut [u32],
     ts: &mut [u64],
     s: ListState,
-    vars: &mut [u32],
-    stamps: &mut [u64],
-    order: &mut [u32],
 ) -> ListAnswer
     requires { ⌜ GoodSession n m (trailOf (now values) (now levels) (now reasons) (now trail) (now opened) (s .trail)) (vmtfOf (now next) (now prev) (now ts) (s .vmtf)) ⌝ }
-    requires { ⌜ (length (now vars) ≡ number.maxGroup) × (length (now stamps) ≡ number.maxGroup) × (length (now order) ≡ number.maxGroup) ⌝ }
     ensures { λ r. ⌜ ((lits : List ℕ) → Answered (called n m (listOps n lits)
         (sessionOf n m lits (now (values .entry)) (now (levels .entry)) (now (reasons .entry)) (now (trail .entry)) (now (opened .entry)) (now (next .entry)) (now (prev .entry)) (now (ts .entry)) s)
         (callIn (now (line .entry))))
@@ -55,9 +144,13 @@ fn line_call(
         (r .reply)
         (sessionOf n m lits (now (values .exit)) (now (levels .exit)) (now (reasons .exit)) (now (trail .exit)) (now (opened .exit)) (now (next .exit)) (now (prev .exit)) (now (ts .exit)) (r .state))) ⌝ }
 {
-    match forms::read_call(line, vars) {
+    match forms::read_call(line) {
         Read::Bad => list_mode::refuse(BAD_LINE, s),
-        Read::Is(call, k) => {
+        Read::Group => group_line(line, n, next, prev, ts, s),
+        Read::Is(call) => {
+            let none = [0u32; 0];
+            let mut no_stamps = [0u64; 0];
+            let mut no_order = [0u32; 0];
             list_mode::step(
                 n,
                 m,
@@ -71,9 +164,9 @@ fn line_call(
                 ts,
                 s,
                 call,
-                &vars[..k],
-                &mut stamps[..k],
-                &mut order[..k],
+                &none,
+                &mut no_stamps,
+                &mut no_order,
             )
         }
     }
@@ -93,14 +186,10 @@ fn next_line(
     next: &mut [u32],
     prev: &mut [u32],
     ts: &mut [u64],
-    vars: &mut [u32],
-    stamps: &mut [u64],
-    order: &mut [u32],
     s: ListPlace,
 ) -> ListPlace
     requires { ⌜ Room (now sheet) (s .place) (now out) × (0 < s .place .left) × (length (now ends) ≤ number.maxClauses) ⌝ }
     requires { ⌜ GoodSession n (length (now ends)) (trailOf (now values) (now levels) (now reasons) (now trail) (now opened) (s .state .trail)) (vmtfOf (now next) (now prev) (now ts) (s .state .vmtf)) ⌝ }
-    requires { ⌜ (length (now vars) ≡ number.maxGroup) × (length (now stamps) ≡ number.maxGroup) × (length (now order) ≡ number.maxGroup) ⌝ }
     ensures { λ r. ⌜ r .place .left < s .place .left ⌝ }
     ensures { λ r. ⌜ ((lits : List ℕ) → ListAlong n lits (now (ends .entry)) (now (sheet .entry))
         (s .place)
@@ -126,9 +215,6 @@ fn next_line(
         prev,
         ts,
         s.state,
-        vars,
-        stamps,
-        order,
     );
     let at = sheet::answer(out, p.at, p.line, a.status, a.reply);
     let q = sheet::behind(p, end, at);
@@ -150,14 +236,10 @@ pub fn list_lines(
     next: &mut [u32],
     prev: &mut [u32],
     ts: &mut [u64],
-    vars: &mut [u32],
-    stamps: &mut [u64],
-    order: &mut [u32],
     s: ListPlace,
 ) -> usize
     requires { ⌜ Room (now sheet) (s .place) (now out) × (length (now ends) ≤ number.maxClauses) ⌝ }
     requires { ⌜ GoodSession n (length (now ends)) (trailOf (now values) (now levels) (now reasons) (now trail) (now opened) (s .state .trail)) (vmtfOf (now next) (now prev) (now ts) (s .state .vmtf)) ⌝ }
-    requires { ⌜ (length (now vars) ≡ number.maxGroup) × (length (now stamps) ≡ number.maxGroup) × (length (now order) ≡ number.maxGroup) ⌝ }
     ensures { λ r. ⌜ ((lits : List ℕ) → Ended (now (sheet .entry)) (s .place)
         (inList n lits (now (ends .entry)) (sessionOf n (length (now (ends .entry))) lits (now (values .entry)) (now (levels .entry)) (now (reasons .entry)) (now (trail .entry)) (now (opened .entry)) (now (next .entry)) (now (prev .entry)) (now (ts .entry)) (s .state)))
         (now (out .entry))
@@ -179,9 +261,6 @@ pub fn list_lines(
             next,
             prev,
             ts,
-            vars,
-            stamps,
-            order,
             u,
         );
     }

@@ -1,5 +1,5 @@
 -- `list_rest::few` meets its contract: the parts of the local arrays that are lent have length n.
-use mathlib.Core.Path.{refl, sym}
+use mathlib.Core.Path.{sym}
 use native.Mathlib.Omega.{arith}
 use lib.Seq.{length-take-le}
 use borrow.Author.Needs.{needs}
@@ -32,24 +32,21 @@ slice-aggregate-list-session-8 c = sym (length-take-le (c .before .before .befor
 
 list-session-requires : tie.Need-list-session-requires
 list-session-requires c κs =
-    let s = c .before .before .before .before .before .before .before .before .before .before .before .before .before .before .before .before in
+    let s = c .before .before .before .before .before .before .before .before .before .before .before .before .before in
     let n = s .args .n in
     let small = s .pre .1 in (
       (s .pre .0, omega (arith, small), s .pre .2),
       (
-        (
-          record {
-            values-long = length-take-le n _ small;
-            levels-long = length-take-le n _ small;
-            reasons-long = length-take-le n _ small;
-            trail-long = length-take-le n _ small;
-            opened-long = length-take-le n _ small;
-          },
-          length-take-le n _ small,
-          length-take-le n _ small,
-          length-take-le n _ small,
-        ),
-        (refl, refl, refl),
+        record {
+          values-long = length-take-le n _ small;
+          levels-long = length-take-le n _ small;
+          reasons-long = length-take-le n _ small;
+          trail-long = length-take-le n _ small;
+          opened-long = length-take-le n _ small;
+        },
+        length-take-le n _ small,
+        length-take-le n _ small,
+        length-take-le n _ small,
       ),
     )
 
@@ -73,9 +70,6 @@ few-spec =
     slice-aggregate-list-session-7
     (λ c. search needs)
     slice-aggregate-list-session-8
-    (λ c. search needs)
-    (λ c. search needs)
-    (λ c. search needs)
     list-session-requires
     (λ c. search needs)
     (λ c. search needs))

@@ -1,5 +1,5 @@
 -- `list_rest::many` meets its contract: the parts of the local arrays that are lent have length n.
-use mathlib.Core.Path.{refl, sym}
+use mathlib.Core.Path.{sym}
 use lib.Seq.{length-take-le}
 use borrow.Author.Needs.{needs}
 use Rattle.list_rest.proofs.many.Statement.{statement}
@@ -31,24 +31,21 @@ slice-aggregate-list-session-8 c = sym (length-take-le (c .before .before .befor
 
 list-session-requires : tie.Need-list-session-requires
 list-session-requires c κs =
-    let s = c .before .before .before .before .before .before .before .before .before .before .before .before .before .before .before .before in
+    let s = c .before .before .before .before .before .before .before .before .before .before .before .before .before in
     let n = s .args .n in
     let small = s .pre .1 in (
       s .pre,
       (
-        (
-          record {
-            values-long = length-take-le n _ small;
-            levels-long = length-take-le n _ small;
-            reasons-long = length-take-le n _ small;
-            trail-long = length-take-le n _ small;
-            opened-long = length-take-le n _ small;
-          },
-          length-take-le n _ small,
-          length-take-le n _ small,
-          length-take-le n _ small,
-        ),
-        (refl, refl, refl),
+        record {
+          values-long = length-take-le n _ small;
+          levels-long = length-take-le n _ small;
+          reasons-long = length-take-le n _ small;
+          trail-long = length-take-le n _ small;
+          opened-long = length-take-le n _ small;
+        },
+        length-take-le n _ small,
+        length-take-le n _ small,
+        length-take-le n _ small,
       ),
     )
 
@@ -72,9 +69,6 @@ many-spec =
     slice-aggregate-list-session-7
     (λ c. search needs)
     slice-aggregate-list-session-8
-    (λ c. search needs)
-    (λ c. search needs)
-    (λ c. search needs)
     list-session-requires
     (λ c. search needs)
     (λ c. search needs))

@@ -11,7 +11,7 @@ use Rattle.list_run.proofs.list_lines.Statement.{statement}
 use Rattle.list_run.proofs.list_lines.Tie as tie
 
 abbrev Inv-loop : tie.InvT-loop
-Inv-loop sheet out₀ n ends values₀ levels₀ reasons₀ trail₀ opened₀ next₀ prev₀ ts₀ vars₀ stamps₀ order₀ u₀ out values levels reasons trail opened next prev ts vars stamps order u =
+Inv-loop sheet out₀ n ends values₀ levels₀ reasons₀ trail₀ opened₀ next₀ prev₀ ts₀ u₀ out values levels reasons trail opened next prev ts u =
     ((lits : List ℕ) → ListAlong n lits ends sheet (u₀ .place) (sessionOf n (length ends) lits values₀ levels₀ reasons₀ trail₀ opened₀ next₀ prev₀ ts₀ (u₀ .state)) out₀ (u .place) (sessionOf n (length ends) lits values levels reasons trail opened next prev ts (u .state)) out)
     × (length values ≡ length values₀)
     × (length levels ≡ length levels₀)
@@ -21,29 +21,26 @@ Inv-loop sheet out₀ n ends values₀ levels₀ reasons₀ trail₀ opened₀ n
     × (length next ≡ length next₀)
     × (length prev ≡ length prev₀)
     × (length ts ≡ length ts₀)
-    × (length vars ≡ length vars₀)
-    × (length stamps ≡ length stamps₀)
-    × (length order ≡ length order₀)
 
 abbrev μ-loop : tie.MeasureT-loop
-μ-loop sheet out₀ n ends values₀ levels₀ reasons₀ trail₀ opened₀ next₀ prev₀ ts₀ vars₀ stamps₀ order₀ u₀ out values levels reasons trail opened next prev ts vars stamps order u = u .place .left
+μ-loop sheet out₀ n ends values₀ levels₀ reasons₀ trail₀ opened₀ next₀ prev₀ ts₀ u₀ out values levels reasons trail opened next prev ts u = u .place .left
 
 loop-holds : tie.Need-loop-holds Inv-loop μ-loop
-loop-holds c = (λ lits. along-none (c .before .before .before .before .before .before .before .before .before .before .before .before .before .before .pre .0 .0) (c .before .before .before .before .before .before .before .before .before .before .before .before .before .before .pre .1 .0), refl, refl, refl, refl, refl, refl, refl, refl, refl, refl, refl)
+loop-holds c = (λ lits. along-none (c .before .before .before .before .before .before .before .before .before .before .before .pre .0 .0) (c .before .before .before .before .before .before .before .before .before .before .before .pre .1), refl, refl, refl, refl, refl, refl, refl, refl)
 
 next-line-requires : tie.Need-next-line-requires Inv-loop μ-loop
 next-line-requires c κs =
-    let inv = c .before .before .before .before .before .before .before .before .before .before .before .before .before .before .loop .inv in
-    let pre = c .before .before .before .before .before .before .before .before .before .before .before .before .before .before .before .before .before .before .before .before .before .before .before .before .before .before .before .before .before .pre in
-    ((inv .0 [] .room, c .before .before .before .before .before .before .before .before .before .before .before .before .if1 .taken, pre .0 .1), (inv .0 [] .good, (inv .9 ∙ pre .1 .1 .0, inv .10 ∙ pre .1 .1 .1, inv .11 ∙ pre .1 .1 .2)))
+    let inv = c .before .before .before .before .before .before .before .before .before .before .before .loop .inv in
+    let pre = c .before .before .before .before .before .before .before .before .before .before .before .before .before .before .before .before .before .before .before .before .before .before .before .pre in
+    ((inv .0 [] .room, c .before .before .before .before .before .before .before .before .before .if1 .taken, pre .0 .1), inv .0 [] .good)
 
 loop-less : tie.Need-loop-less Inv-loop μ-loop
-loop-less c = c .before .before .before .before .before .before .before .before .before .before .before .before .before .before .before .before .before .before .before .before .before .before .before .before .next-line .ensures .0
+loop-less c = c .before .before .before .before .before .before .before .before .before .before .before .before .before .before .before .before .before .before .next-line .ensures .0
 
 loop-again : tie.Need-loop-again Inv-loop μ-loop
 loop-again c =
-    let inv = c .before .before .before .before .before .before .before .before .before .before .before .before .before .before .before .before .before .before .before .before .before .before .before .before .before .before .before .before .before .before .before .before .before .before .before .before .before .before .before .loop .inv in
-    let l = c .before .before .before .before .before .before .before .before .before .before .before .before .before .before .before .before .before .before .before .before .before .before .before .before .next-line in (
+    let inv = c .before .before .before .before .before .before .before .before .before .before .before .before .before .before .before .before .before .before .before .before .before .before .before .before .before .before .before .before .before .before .loop .inv in
+    let l = c .before .before .before .before .before .before .before .before .before .before .before .before .before .before .before .before .before .before .next-line in (
       λ lits. along-more (inv .0 lits) (l .ensures .1 lits),
       l .kept .1 .1 .1 .1 .0 ∙ inv .1,
       l .kept .1 .1 .1 .1 .1 .0 ∙ inv .2,
@@ -53,9 +50,6 @@ loop-again c =
       l .kept .1 .1 .1 .1 .1 .1 .1 .1 .1 .0 ∙ inv .6,
       l .kept .1 .1 .1 .1 .1 .1 .1 .1 .1 .1 .0 ∙ inv .7,
       l .kept .1 .1 .1 .1 .1 .1 .1 .1 .1 .1 .1 .0 ∙ inv .8,
-      l .kept .1 .1 .1 .1 .1 .1 .1 .1 .1 .1 .1 .1 .0 ∙ inv .9,
-      l .kept .1 .1 .1 .1 .1 .1 .1 .1 .1 .1 .1 .1 .1 .0 ∙ inv .10,
-      l .kept .1 .1 .1 .1 .1 .1 .1 .1 .1 .1 .1 .1 .1 .1 .0 ∙ inv .11,
     )
 
 returns : tie.Need-returns Inv-loop μ-loop
@@ -80,7 +74,4 @@ list-lines-spec =
     (λ c. c .before .before .loop .inv .6)
     (λ c. c .before .before .loop .inv .7)
     (λ c. c .before .before .loop .inv .8)
-    (λ c. c .before .before .loop .inv .9)
-    (λ c. c .before .before .loop .inv .10)
-    (λ c. c .before .before .loop .inv .11)
     returns)
