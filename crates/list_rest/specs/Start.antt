@@ -16,9 +16,8 @@ use Rattle.list_entry.specs.Entry.{stateOk}
 use Rattle.list_entry.specs.Checked.{state-right}
 use Rattle.forms.specs.Forms.{vmtf}
 use Rattle.sheet.specs.declared.Place.{Place}
-use Rattle.sheet.specs.Sheet.{Stage, inList, opened}
-use Rattle.sheet.specs.Running.{Room, Ended}
-use Rattle.sheet.specs.SessionLines.{along-none, along-over}
+use Rattle.sheet.specs.Sheet.{inList, opened}
+use Rattle.sheet.specs.Running.{Ended}
 
 -- the literals of a good clause list are what creation needs
 pub clause-literals : {n : ℕ} {lits ends : List ℕ} → GoodClauses n lits ends → Literals n lits
@@ -38,7 +37,3 @@ module _ {n : ℕ} (lits : List ℕ) (small : n ≤ maxVars) {t : Trail} {l : Vm
   pub started-ended : (ends : List ℕ) {sheet out out′ : List ℕ} {p : Place} {r : ℕ} → Ended sheet p (inList n lits ends (record { trail = t; chooser = l })) out r out′ → Ended sheet p (opened vmtf n lits ends) out r out′
   unfolding fresh
   started-ended ends e = rw (et, el) at e
-
--- where no line is left, a run has ended, and the buffer stays
-pub nothing-left : {sheet out : List ℕ} {p : Place} (stage : Stage) → Room sheet p out → p .left ≡ 0 → Ended sheet p stage out (p .at) out
-nothing-left {p = p} stage room none = along-over {Good = λ (s : Stage). p .left ≡ 0} {stage = λ (s : Stage). s} (along-none {s = stage} room none) none

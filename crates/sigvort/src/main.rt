@@ -11,6 +11,9 @@ fn main() {
     let n = io::read_full(STDIN_FILENO, &mut sheet);
     let k = desk::print(&sheet[..n], &mut answers, &mut positions);
     if !io::write_all(STDOUT_FILENO, &answers[..k]) {
-        io::write_all(STDERR_FILENO, b"sigvort: the answers could not be written\n");
+        io::write_all(
+            STDERR_FILENO,
+            b"sigvort: the answers could not be written\n",
+        );
     }
 }

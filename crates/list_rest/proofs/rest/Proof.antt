@@ -1,5 +1,5 @@
 -- `list_rest::rest` meets its contract: with no line left the run has ended; else the session is made in arrays that its variables fit.
-use Rattle.list_rest.specs.Start.{nothing-left}
+use Rattle.sheet.specs.SessionLines.{nothing-left}
 use borrow.Author.Needs.{needs}
 use Rattle.list_rest.proofs.rest.Statement.{statement}
 use Rattle.list_rest.proofs.rest.Tie as tie
