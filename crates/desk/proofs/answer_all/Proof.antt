@@ -54,11 +54,11 @@ answer-all-spec =
     open-requires
     (λ c. search needs)
     open-requires-2
-    (λ c. search needs)
+    (λ c. c .before .before .answer .kept .0)
     returns
-    (λ c. search needs)
-    (λ c. search needs)
+    (λ c. c .before .before .before .before .«open» .kept .1 .0)
+    (λ c. c .before .before .before .before .«open» .kept .1 .1 .0)
     returns-2
-    (λ c. search needs)
-    (λ c. search needs)
+    (λ c. c .before .before .before .before .open2 .kept .1 .0)
+    (λ c. c .before .before .before .before .open2 .kept .1 .1 .0)
     returns-3)

@@ -1,5 +1,5 @@
 -- `desk::clause_lines_first` meets its contract: what the session's lines end, the clause lines before them end too.
-use mathlib.Core.Path.{sym}
+use mathlib.Core.Path.{refl, sym, _∙_}
 use native.Mathlib.Omega.{arith}
 use lib.Seq.{length-take-le}
 use Rattle.desk.specs.First.{modeOf, section-ended}
@@ -29,8 +29,8 @@ pub clause-lines-first-spec : {M : Type 1} → statement M
 clause-lines-first-spec =
     tie.close
     (tie.spec
-    (λ c. search needs)
-    (λ c. search needs)
+    (λ c. refl)
+    (λ c. refl)
     (λ c κs. search needs)
     (λ c. search needs)
     (λ c. search needs)
@@ -38,7 +38,7 @@ clause-lines-first-spec =
     slice-aggregate-session-lines
     (λ c. search needs)
     slice-aggregate-session-lines-2
-    (λ c κs. search needs)
-    (λ c. search needs)
-    (λ c. search needs)
+    (λ c κs. let r = c .before .before .before .before .before .before .before .before .before .before .before .clause-lines .ensures .1 .ready in (r .room, c .before .before .before .before .before .before .before .before .before .before .before .before .before .before .before .before .before .before .pre .1, r .good, c .before .before .before .before .before .before .before .before .before .before .before .before .before .before .before .before .before .before .pre .2))
+    (λ c. c .before .before .before .before .session-lines .kept .1 .0 ∙ c .before .before .before .before .before .before .before .before .before .before .before .before .before .before .before .before .clause-lines .kept .1 .0)
+    (λ c. c .before .before .before .before .session-lines .kept .1 .1 .0)
     returns)

@@ -1,5 +1,5 @@
 -- `desk::lines_behind` meets its contract: where no clause line comes next, the session's lines are all.
-use mathlib.Core.Path.{sym, _∙_}
+use mathlib.Core.Path.{refl, sym, _∙_}
 use Rattle.desk.specs.First.{modeOf, session-ended}
 use borrow.Author.Needs.{needs}
 use Rattle.desk.proofs.lines_behind.Statement.{statement}
@@ -14,14 +14,14 @@ pub lines-behind-spec : {M : Type 1} → statement M
 lines-behind-spec =
     tie.close
     (tie.spec
+    (λ c κs. (c .before .before .before .args .out .now, c .before .before .before .pre .0))
+    (λ c κs. c .before .before .before .before .before .before .before .pre)
+    (λ c. c .before .before .before .before .clause-lines-first .kept .1 .0)
+    (λ c. c .before .before .before .before .clause-lines-first .kept .1 .1 .0)
+    (λ c. c .before .before .before .before .clause-lines-first .ensures)
+    (λ c. refl)
+    (λ c. refl)
     (λ c κs. search needs)
-    (λ c κs. search needs)
-    (λ c. search needs)
-    (λ c. search needs)
-    (λ c. search needs)
-    (λ c. search needs)
-    (λ c. search needs)
-    (λ c κs. search needs)
-    (λ c. search needs)
-    (λ c. search needs)
+    (λ c. c .before .before .before .before .session-lines .kept .1 .0)
+    (λ c. c .before .before .before .before .session-lines .kept .1 .1 .0)
     returns-2)

@@ -1,4 +1,5 @@
 -- `desk::open` meets its contract: a first line with too many variables is refused; else it is answered, and so are the lines behind it.
+use mathlib.Core.Path.{_∙_}
 use Prim.Native.Nat.{_≤_, _<_}
 use native.Mathlib.Omega.{arith}
 use Rattle.lit.specs.Numbers.{maxVars}
@@ -45,11 +46,11 @@ open-spec =
     tie.close
     (tie.spec
     answer-requires
-    (λ c. search needs)
+    (λ c. c .before .before .answer .kept .0)
     returns
     answer-requires-2
     behind-requires
     lines-behind-requires
-    (λ c. search needs)
-    (λ c. search needs)
+    (λ c. c .before .before .before .before .lines-behind .kept .1 .0 ∙ c .before .before .before .before .before .before .before .before .before .before .answer2 .kept .0)
+    (λ c. c .before .before .before .before .lines-behind .kept .1 .1 .0)
     returns-2)

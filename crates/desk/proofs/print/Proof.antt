@@ -24,8 +24,8 @@ print-spec =
     (λ c κs. search needs)
     (λ c. search needs)
     (λ c. search needs)
-    (λ c. search needs)
-    (λ c. search needs)
+    (λ c. c .before .before .before .before .before .run .kept .1 .0)
+    (λ c. c .before .before .before .before .before .run .kept .1 .1 .0)
     returns
     (λ c. search needs)
     (λ c. search needs)

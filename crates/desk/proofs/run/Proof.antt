@@ -55,6 +55,6 @@ run-spec =
     cast-answer-all
     answer-all-requires
     cast-result
-    (λ c. search needs)
-    (λ c. search needs)
+    (λ c. c .before .before .before .before .answer-all .kept .1 .0)
+    (λ c. c .before .before .before .before .answer-all .kept .1 .1 .0)
     returns-4)

@@ -21,10 +21,10 @@ pub session-lines-spec : {M : Type 1} → statement M
 session-lines-spec =
     tie.close
     (tie.spec
-    (λ c κs. search needs)
-    (λ c. search needs)
-    (λ c. search needs)
+    (λ c κs. c .before .before .before .before .before .before .before .before .pre)
+    (λ c. c .before .before .before .before .rest .kept .1 .0)
+    (λ c. c .before .before .before .before .rest .kept .1 .1 .0)
     returns
-    (λ c κs. search needs)
-    (λ c. search needs)
+    (λ c κs. let p = c .before .before .before .before .before .before .before .pre in (p .0, p .1, p .2))
+    (λ c. c .before .before .rest2 .kept .1 .0)
     returns-2)

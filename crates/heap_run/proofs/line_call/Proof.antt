@@ -1,4 +1,5 @@
 -- `heap_run::line_call` meets its contract: the call that was read is answered by the step; a line that is none is refused.
+use mathlib.Core.Path.{refl}
 use Rattle.sheet.specs.Called.{line-refused, line-answered, line-group}
 use borrow.Author.Needs.{needs}
 use Rattle.heap_run.proofs.line_call.Statement.{statement}
@@ -25,7 +26,7 @@ line-call-spec =
     (λ c. search needs)
     (λ c κs. tt)
     (λ c. search needs)
-    (λ c. search needs)
+    (λ c. refl)
     (λ c κs. c .before .before .before .before .before .before .before .before .before .before .before .before .before .before .before .before .before .before .before .before .before .before .before .before .before .before .pre)
     returns
     returns-2

@@ -15,6 +15,8 @@ pub main-spec : {M : Type 1} → statement M
 main-spec =
     tie.close
     (tie.spec
+    (λ c κs. tt)
+    (λ c κs. tt)
     (λ c. search needs)
     (λ c κs. search needs)
     (λ c. search needs)
@@ -25,4 +27,7 @@ main-spec =
     (λ c. search needs)
     slice-aggregate-write-all
     (λ c κs. search needs)
+    (λ c. search needs)
+    (λ c κs. search needs)
+    (λ c. search needs)
     (λ c. search needs))

@@ -1,0 +1,13 @@
+-- `desk::sigvort_run` meets its contract: it has its positions itself.
+use mathlib.Core.Path.{refl}
+use Rattle.desk.proofs.sigvort_run.Statement.{statement}
+use Rattle.desk.proofs.sigvort_run.Tie as tie
+
+pub sigvort-run-spec : {M : Type 1} → statement M
+sigvort-run-spec =
+    tie.close
+    (tie.spec
+    (λ c. refl)
+    (λ c κs. refl)
+    (λ c. c .before .before .before .run .kept .1 .0)
+    (λ c. c .before .before .before .run .ensures))
