@@ -12,7 +12,7 @@ ghost use Rattle.forms.specs.Forms.{vsids, vmtf};
 ghost use Rattle.sheet.specs.Sheet.{reading, opened, answered, ran, result, bytes};
 ghost use Rattle.sheet.specs.Sheet as spec;
 ghost use Rattle.sheet.specs.Writing.{Wrote};
-ghost use Rattle.sheet.specs.Running.{linesFrom, lineLength, Room, Ended};
+ghost use Rattle.sheet.specs.Running.{linesFrom, lineLength, Room, Holds, Ended};
 ghost use Rattle.desk.specs.First.{atFirst, modeOf, openingAt};
 ghost use Rattle.desk.specs.Ran.{printed};
 use forms::First;
@@ -52,26 +52,27 @@ fn session_lines(
     list_rest::rest(sheet, out, n, lits, ends, p)
 }
 
-// The lines behind the first where clause lines come next: these, then the session's.
-fn clause_lines_first(
+// The clause lines, with slices for their clauses, then the session's.
+fn clauses_with(
     sheet: &[u8],
     out: &mut [u8],
     positions: &mut [u32],
     heap: bool,
     n: u32,
+    lits: &mut [u32],
+    ends: &mut [u32],
     p: Place,
 ) -> usize
     requires { ⌜ Room (now sheet) p (now out) × (n ≤ number.maxVars) × (length (now positions) ≡ number.maxVars) ⌝ }
+    requires { ⌜ Holds (now sheet) (now lits) (now ends) × (length (now lits) ≤ number.maxLiterals) ⌝ }
     ensures { λ r. ⌜ Ended (now (sheet .entry)) p (reading (modeOf heap) n [] []) (now (out .entry)) r (now (out .exit)) ⌝ }
 {
-    let mut lits = [0u32; 8192];
-    let mut ends = [0u32; 2048];
     let s = clause_lines(
         sheet,
         out,
         n,
-        &mut lits,
-        &mut ends,
+        lits,
+        ends,
         Section {
             place: p,
             literals: 0,
@@ -91,6 +92,29 @@ fn clause_lines_first(
         &ends[..clauses],
         q,
     )
+}
+
+// The lines behind the first where clause lines come next. On a short sheet the slices for clauses are short: a literal takes two bytes at
+// least, and so does a clause line.
+fn clause_lines_first(
+    sheet: &[u8],
+    out: &mut [u8],
+    positions: &mut [u32],
+    heap: bool,
+    n: u32,
+    p: Place,
+) -> usize
+    requires { ⌜ Room (now sheet) p (now out) × (n ≤ number.maxVars) × (length (now positions) ≡ number.maxVars) ⌝ }
+    ensures { λ r. ⌜ Ended (now (sheet .entry)) p (reading (modeOf heap) n [] []) (now (out .entry)) r (now (out .exit)) ⌝ }
+{
+    if sheet.len() <= 512 {
+        let mut lits = [0u32; 256];
+        let mut ends = [0u32; 256];
+        return clauses_with(sheet, out, positions, heap, n, &mut lits, &mut ends, p);
+    }
+    let mut lits = [0u32; 8192];
+    let mut ends = [0u32; 2048];
+    clauses_with(sheet, out, positions, heap, n, &mut lits, &mut ends, p)
 }
 
 // The lines behind the first, in heap or in list mode. Without clause lines the slices for clauses are not set up.

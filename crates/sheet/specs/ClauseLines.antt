@@ -1,5 +1,5 @@
 -- Clause lines: what each comes to on the clause list at the front of the slices, and where the section ends. Assumes nothing.
-use Prim.Native.Nat.{ℕ, _+_, _≤_, _<_}
+use Prim.Native.Nat.{ℕ, _+_, _*_, _≤_, _<_}
 use mathlib.Core.Path.{_≡_, refl, sym, ap, subst, _∙_}
 use mathlib.Core.Bool.{true, false, _&&_}
 use mathlib.Core.Option.{Option, none, some}
@@ -18,10 +18,13 @@ use Rattle.formula.specs.Good.{GoodClauses, clauses-facts}
 use Rattle.formula.specs.Adding.{withEnd, fits-added}
 use Rattle.book.specs.Session.{status, reply, leaves, need}
 use Rattle.text.specs.Text.{newline, find}
-use Rattle.forms.specs.Forms.{Mode, vsids, vmtf, beginsClause, codesIn}
+use Rattle.forms.specs.Forms.{Mode, vsids, vmtf, beginsClause, codesIn, given, numbers}
+use Rattle.forms.specs.Behind.{behind}
+use Rattle.forms.specs.Lines.{codes-none, codes-behind}
+use Rattle.forms.specs.Short.{listed-short}
 use Rattle.sheet.specs.declared.clauses.Added.{Added}
 use Rattle.sheet.specs.Sheet.{Stage, reading, inHeap, inList, clauseWith, opened, answers}
-use Rattle.sheet.specs.Running.{nextClause, ClauseAdded, Slices}
+use Rattle.sheet.specs.Running.{nextClause, codeCount, ClauseAdded, Slices, Takes}
 
 -- a line's first byte is the first byte from there on
 pub begins-front : (bs : List ℕ) → beginsClause (take (find newline bs) bs) ≡ beginsClause bs
@@ -61,6 +64,29 @@ module _ (mode : Mode) (n : ℕ) (lits ends : List ℕ) where
       (λ e. rw e (clauses-facts n (lits ++ codes) (withEnd lits ends codes) .0 (fits-added n lits ends codes (clauses-facts n lits ends .1 g) ∙ e)))
       (λ e. rw e g)
 
+-- a clause line with many codes is long
+pub codes-short : (line : List ℕ) → 2 * codeCount (codesIn line) ≤ length line
+codes-short line =
+    true-or-false (beginsClause line)
+    (λ t. rw (codes-behind line t) (counted (given (behind (drop 1 line)) numbers) (listed-short line)))
+    (λ f. rw (codes-none line f) (omega arith))
+  where
+    counted : (o : Option (List ℕ)) → ((ns : List ℕ) → o ≡ some ns → 2 * length ns ≤ length line) → 2 * codeCount o ≤ length line
+    counted none h = omega arith
+    counted (some ns) h = h ns refl
+
+pub codes-held : (line : List ℕ) {ns : List ℕ} → codesIn line ≡ some ns → 2 * length ns ≤ length line
+codes-held line e = rw e at (codes-short line)
+
+-- slices of the same length take the same clauses
+pub still-takes : {lits lits′ ends : List ℕ} {literals clauses long k : ℕ} → length lits′ ≡ length lits → Slices lits ends literals clauses × ((j : ℕ) → 2 * j ≤ long → Takes lits ends literals clauses j) → 2 * k ≤ long
+    → Slices lits′ ends literals clauses × Takes lits′ ends literals clauses k
+still-takes {k = k} e h short =
+    let t = h .1 k short in (
+      record { lits-short = omega (arith, e, h .0 .lits-short); few-literals = omega (arith, e, h .0 .few-literals); few-clauses = h .0 .few-clauses },
+      record { codes = λ few. omega (arith, e, t .codes few); clause = t .clause },
+    )
+
 -- what a clause that fits says of the counts
 pub fits-clauses : (n clauses literals : ℕ) (codes : List ℕ) → clauseFits n clauses literals codes ≡ true → clauses < maxClauses
 unfolding clauseFits
@@ -77,10 +103,10 @@ too-long n clauses literals codes h = not-true (clauseFits n clauses literals co
 
 module _ (mode : Mode) (n : ℕ) {lits ends : List ℕ} {literals clauses : ℕ} (s : Slices lits ends literals clauses) where
   used-lits : length (take literals lits) ≡ literals
-  used-lits = length-take-le literals lits (omega (arith, s .lits-long, s .few-literals))
+  used-lits = length-take-le literals lits (s .few-literals)
 
   used-ends : length (take clauses ends) ≡ clauses
-  used-ends = length-take-le clauses ends (omega (arith, s .ends-long, s .few-clauses))
+  used-ends = length-take-le clauses ends (s .few-clauses)
 
   -- 3, by its form: only what lies behind the literals is changed
   pub bad-form : (lits′ : List ℕ) → take literals lits′ ≡ take literals lits → ClauseAdded mode n none lits ends literals clauses (record { status = badLine; literals = literals; clauses = clauses }) lits′ ends
@@ -89,6 +115,8 @@ module _ (mode : Mode) (n : ℕ) {lits ends : List ℕ} {literals clauses : ℕ}
     stage = rw same;
     few-literals = s .few-literals;
     few-clauses = s .few-clauses;
+    more-literals = omega arith;
+    more-clauses = omega arith;
   }
 
   module _ (codes : List ℕ) where
@@ -100,29 +128,34 @@ module _ (mode : Mode) (n : ℕ) {lits ends : List ℕ} {literals clauses : ℕ}
       stage = rw (used-lits, used-ends, e);
       few-literals = s .few-literals;
       few-clauses = s .few-clauses;
+      more-literals = omega arith;
+      more-clauses = omega arith;
     }
 
     -- added: its codes stand behind the literals, and its end behind the ends
-    pub fit : clauseFits n clauses literals codes ≡ true → literals + length codes ≤ maxLiterals → take (length codes) (drop literals lits) ≡ codes
+    pub fit : clauseFits n clauses literals codes ≡ true → literals + length codes ≤ length lits → clauses < length ends → take (length codes) (drop literals lits) ≡ codes
         → ClauseAdded mode n (some codes) lits ends literals clauses (record { status = 0; literals = literals + length codes; clauses = clauses + 1 }) lits (set ends clauses (literals + length codes))
     unfolding need
-    fit e room held =
-        let more : clauses < maxClauses = fits-clauses n clauses literals codes e in
+    fit e room more held =
         record {
           status = rw (used-lits, used-ends, e);
-          stage = rw (used-lits, used-ends, e, take-add literals (length codes) lits, held, add-one clauses, take-suc-set ends clauses (literals + length codes) (omega (arith, s .ends-long)));
+          stage = rw (used-lits, used-ends, e, take-add literals (length codes) lits, held, add-one clauses, take-suc-set ends clauses (literals + length codes) more);
           few-literals = room;
           few-clauses = omega arith;
+          more-literals = omega arith;
+          more-clauses = omega arith;
         }
 
 -- the same, for slices that are the same as far as they are in use
-pub same-front : {mode : Mode} {n : ℕ} {codes : Option (List ℕ)} {lits lits₀ ends lits′ ends′ : List ℕ} {literals clauses : ℕ} {a : Added} → take literals lits ≡ take literals lits₀
+pub same-front : {mode : Mode} {n : ℕ} {codes : Option (List ℕ)} {lits lits₀ ends lits′ ends′ : List ℕ} {literals clauses : ℕ} {a : Added} → take literals lits ≡ take literals lits₀ → length lits ≡ length lits₀
     → ClauseAdded mode n codes lits ends literals clauses a lits′ ends′ → ClauseAdded mode n codes lits₀ ends literals clauses a lits′ ends′
-same-front {mode} {n} {codes} {ends = ends} {clauses = clauses} e h = record {
+same-front {mode} {n} {codes} {ends = ends} {clauses = clauses} e long h = record {
   status = h .status ∙ ap (λ (l : List ℕ). status (clauseWith mode n l (take clauses ends) codes)) e;
   stage = h .stage ∙ ap (λ (l : List ℕ). leaves (reading mode n l (take clauses ends)) (clauseWith mode n l (take clauses ends) codes)) e;
-  few-literals = h .few-literals;
+  few-literals = omega (arith, h .few-literals, long);
   few-clauses = h .few-clauses;
+  more-literals = h .more-literals;
+  more-clauses = h .more-clauses;
 }
 
 -- and for a line that is the same

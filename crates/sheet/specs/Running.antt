@@ -1,8 +1,8 @@
 -- A run between two lines, as code holds it: the sheet and the answer buffer, and a place in both.
-use Prim.Native.Nat.{ℕ, _+_, _*_, _-_, _≤_}
+use Prim.Native.Nat.{ℕ, _+_, _*_, _-_, _≤_, _<_}
 use mathlib.Core.Path.{_≡_}
 use mathlib.Core.Bool.{Bool, false}
-use mathlib.Core.Option.{Option}
+use mathlib.Core.Option.{Option, none, some}
 use mathlib.Core.List.{List, [], _∷_}
 use lib.ListN.{length, drop, take}
 use Rattle.lit.specs.Numbers.{maxSheet, maxClauses, maxLiterals, answerRoom}
@@ -71,24 +71,43 @@ stageOf mode n lits ends s = readingOf mode n lits ends (s .literals) (s .clause
 abbrev pub clauseOf : Mode → ℕ → List ℕ → List ℕ → ℕ → ℕ → Option (List ℕ) → Result Stage
 clauseOf mode n lits ends literals clauses codes = clauseWith mode n (take literals lits) (take clauses ends) codes
 
--- a clause line did what its turn says: the status, and the clause list behind it
+-- how many codes a clause line has
+abbrev pub codeCount : Option (List ℕ) → ℕ
+codeCount none = 0
+codeCount (some codes) = length codes
+
+-- a clause line did what its turn says: the status, and the clause list behind it, longer by its codes at most
 pub record ClauseAdded (mode : Mode) (n : ℕ) (codes : Option (List ℕ)) (lits ends : List ℕ) (literals clauses : ℕ) (a : Added) (lits′ ends′ : List ℕ) : Type 0 where
   pub status : a .status ≡ status (clauseOf mode n lits ends literals clauses codes)
   pub stage : readingOf mode n lits′ ends′ (a .literals) (a .clauses) ≡ leaves (readingOf mode n lits ends literals clauses) (clauseOf mode n lits ends literals clauses codes)
-  pub few-literals : a .literals ≤ maxLiterals
-  pub few-clauses : a .clauses ≤ maxClauses
+  pub few-literals : a .literals ≤ length lits
+  pub few-clauses : a .clauses ≤ length ends
+  pub more-literals : a .literals ≤ literals + codeCount codes
+  pub more-clauses : a .clauses ≤ clauses + 1
 
--- the slices of the clause list, and so many of them in use
+-- the slices of the clause list, no longer than it may become, and so many of them in use
 pub record Slices (lits ends : List ℕ) (literals clauses : ℕ) : Type 0 where
-  pub lits-long : length lits ≡ maxLiterals
-  pub ends-long : length ends ≡ maxClauses
-  pub few-literals : literals ≤ maxLiterals
-  pub few-clauses : clauses ≤ maxClauses
+  pub lits-short : length lits ≤ maxLiterals
+  pub few-literals : literals ≤ length lits
+  pub few-clauses : clauses ≤ length ends
+
+-- they have room for one more clause of k codes, if a clause list may have it
+pub record Takes (lits ends : List ℕ) (literals clauses k : ℕ) : Type 0 where
+  pub codes : literals + k ≤ maxLiterals → literals + k ≤ length lits
+  pub clause : clauses < maxClauses → clauses < length ends
+
+-- they have room for every clause list that the sheet can have: a code takes two bytes at least, and so does a clause line
+pub record Holds (sheet lits ends : List ℕ) : Type 0 where
+  pub codes : (k : ℕ) → k ≤ maxLiterals → 2 * k ≤ length sheet → k ≤ length lits
+  pub clauses : (k : ℕ) → k ≤ maxClauses → 2 * k ≤ length sheet → k ≤ length ends
 
 -- there is room for the rest of the run, and the clause list is good
 pub record Ready (n : ℕ) (sheet : List ℕ) (s : Section) (out lits ends : List ℕ) : Type 0 where
   pub room : Room sheet (s .place) out
   pub slices : Slices lits ends (s .literals) (s .clauses)
+  pub holds : Holds sheet lits ends
+  pub read-literals : 2 * s .literals ≤ s .place .from
+  pub read-clauses : 2 * s .clauses ≤ s .place .from
   pub good : GoodClauses n (take (s .literals) lits) (take (s .clauses) ends)
 
 -- Clause lines are answered, from s on up to u: the run comes to the same end from there, in either mode, and no slice has changed its length.

@@ -1,13 +1,14 @@
 -- The clause section, line by line: what adding a line's clause and writing its answer leaves. Assumes nothing.
-use Prim.Native.Nat.{ℕ, _+_, _≤_, _<_}
+use Prim.Native.Nat.{ℕ, _+_, _*_, _≤_, _<_}
 use mathlib.Core.Path.{_≡_, refl, sym, ap, subst, _∙_}
 use mathlib.Core.Logic.{by-cases}
 use mathlib.Core.Bool.{true, false≢true}
 use mathlib.Core.Option.{none}
-use mathlib.Core.List.{List}
+use mathlib.Core.List.{List, [], _∷_}
 use native.Mathlib.Omega.{arith}
 use native.Mathlib.Decide.{decLt}
-use lib.ListN.{length, take}
+use lib.ListN.{length, take, drop}
+use lib.Seq.{length-take-le}
 use Rattle.lit.specs.Numbers.{answerRoom}
 use Rattle.formula.specs.Good.{GoodClauses}
 use Rattle.book.specs.Session.{status, reply}
@@ -17,9 +18,9 @@ use Rattle.sheet.specs.declared.clauses.Section.{Section}
 use Rattle.sheet.specs.Sheet.{Stage, answerLine}
 use Rattle.sheet.specs.Writing.{Wrote, same-room}
 use Rattle.sheet.specs.Bounds.{answer-short, turn-small}
-use Rattle.sheet.specs.Running.{linesFrom, lineLength, lineFrom, after, SameEnd, nextClause, stageOf, clauseOf, ClauseAdded, Ready, SoFar}
-use Rattle.sheet.specs.Steps.{same-end, lines-over, lines-more, answer-room, room-behind, end-behind}
-use Rattle.sheet.specs.ClauseLines.{clause-reply, GoodStage, clause-good}
+use Rattle.sheet.specs.Running.{linesFrom, lineLength, lineFrom, after, SameEnd, nextClause, stageOf, clauseOf, ClauseAdded, Takes, Ready, SoFar}
+use Rattle.sheet.specs.Steps.{same-end, lines-over, line-found, line-inside, lines-more, answer-room, room-behind, end-behind}
+use Rattle.sheet.specs.ClauseLines.{clause-reply, GoodStage, clause-good, codes-short}
 
 -- no line is answered yet, or one after another
 pub so-far-none : {n : ℕ} {sheet : List ℕ} {s : Section} {out lits ends : List ℕ} → Ready n sheet s out lits ends → SoFar n sheet s out lits ends s out lits ends
@@ -49,6 +50,21 @@ module _ {n : ℕ} {sheet out lits ends : List ℕ} {s : Section} (ready : Ready
   is-clause : beginsClause line ≡ true
   is-clause = sym (ap (λ (ls : List (List ℕ)). nextClause ls) (lines-more (ready .room) clause-more)) ∙ next
 
+  -- it has a byte at least, and twice as many as codes, so the slices have room for its clause
+  line-long : length line ≡ lineLength sheet (s .place .from)
+  line-long = length-take-le (lineLength sheet (s .place .from)) (drop (s .place .from) sheet) (omega (arith, line-found (ready .room) clause-more))
+
+  not-empty : (bs : List ℕ) → beginsClause bs ≡ true → 1 ≤ length bs
+  unfolding beginsClause
+  not-empty [] e = absurd (false≢true e)
+  not-empty (b ∷ bs) e = omega arith
+
+  pub clause-taken : (k : ℕ) → 2 * k ≤ length line → Takes lits ends (s .literals) (s .clauses) k
+  clause-taken k short = record {
+    codes = λ few. ready .holds .codes (s .literals + k) few (omega (arith, line-long, line-inside (ready .room) clause-more, ready .read-literals));
+    clause = λ few. (let more : s .clauses + 1 ≤ length ends = ready .holds .clauses (s .clauses + 1) (omega arith) (omega (arith, line-long, not-empty line is-clause, line-inside (ready .room) clause-more, ready .read-clauses)) in omega arith);
+  }
+
   module _ {a : Added} {lits′ ends′ : List ℕ} (added : (mode : Mode) → ClauseAdded mode n (codesIn line) lits ends (s .literals) (s .clauses) a lits′ ends′) where
     -- the answer fits its room, and the buffer
     short : length (answerLine (s .place .line) (a .status) none) ≤ answerRoom
@@ -70,11 +86,13 @@ module _ {n : ℕ} {sheet out lits ends : List ℕ} {s : Section} (ready : Ready
       ready-behind = record {
         room = room-behind (ready .room) clause-more wrote short;
         slices = record {
-          lits-long = lits-same ∙ ready .slices .lits-long;
-          ends-long = ends-same ∙ ready .slices .ends-long;
-          few-literals = added vsids .few-literals;
-          few-clauses = added vsids .few-clauses;
+          lits-short = omega (arith, lits-same, ready .slices .lits-short);
+          few-literals = omega (arith, lits-same, added vsids .few-literals);
+          few-clauses = omega (arith, ends-same, added vsids .few-clauses);
         };
+        holds = record { codes = λ k few short. omega (arith, ready .holds .codes k few short, lits-same); clauses = λ k few short. omega (arith, ready .holds .clauses k few short, ends-same) };
+        read-literals = omega (arith, added vsids .more-literals, codes-short line, line-long, ready .read-literals);
+        read-clauses = omega (arith, added vsids .more-clauses, line-long, not-empty line is-clause, ready .read-clauses);
         good = good;
       }
 

@@ -3,11 +3,10 @@ ghost use mathlib.Core.Path.{_≡_};
 ghost use mathlib.Core.Bool.{true, false};
 ghost use mathlib.Core.Option.{some};
 ghost use mathlib.Core.List.{List};
-ghost use Prim.Native.Nat.{ℕ, _+_, _≤_, _<_};
+ghost use Prim.Native.Nat.{ℕ, _+_, _*_, _≤_, _<_};
 ghost use lib.ListN.{length, take, drop};
-ghost use Rattle.lit.specs.Numbers.{maxLiterals};
 ghost use Rattle.forms.specs.Forms.{Mode, codesIn};
-ghost use Rattle.sheet.specs.Running.{linesFrom, Room, nextClause, ClauseAdded, Slices, Ready, SoFar};
+ghost use Rattle.sheet.specs.Running.{linesFrom, Room, nextClause, ClauseAdded, Slices, Takes, Ready, SoFar};
 use crate::Place;
 use crate::answer;
 use crate::behind;
@@ -40,8 +39,8 @@ fn add_clause(
     clauses: u32,
     k: usize,
 ) -> Added
-    requires { ⌜ Slices (now lits) (now ends) literals clauses ⌝ }
-    ensures { λ r. ⌜ ((mode : Mode) (codes : List ℕ) → length codes ≡ k → (literals + k ≤ maxLiterals → take k (drop literals (now (lits .entry))) ≡ codes)
+    requires { ⌜ Slices (now lits) (now ends) literals clauses × Takes (now lits) (now ends) literals clauses k ⌝ }
+    ensures { λ r. ⌜ ((mode : Mode) (codes : List ℕ) → length codes ≡ k → (literals + k ≤ length (now (lits .entry)) → take k (drop literals (now (lits .entry))) ≡ codes)
         → ClauseAdded mode n (some codes) (now (lits .entry)) (now (ends .entry)) literals clauses r (now (lits .entry)) (now (ends .exit))) ⌝ }
 {
     let from = literals as usize;
@@ -74,7 +73,7 @@ fn clause_line(
     literals: u32,
     clauses: u32,
 ) -> Added
-    requires { ⌜ Slices (now lits) (now ends) literals clauses ⌝ }
+    requires { ⌜ Slices (now lits) (now ends) literals clauses × ((k : ℕ) → 2 * k ≤ length (now line) → Takes (now lits) (now ends) literals clauses k) ⌝ }
     ensures { λ r. ⌜ ((mode : Mode) → ClauseAdded mode n (codesIn (now (line .entry))) (now (lits .entry)) (now (ends .entry)) literals clauses r (now (lits .exit)) (now (ends .exit))) ⌝ }
 {
     let from = literals as usize;

@@ -5,7 +5,7 @@ use native.Mathlib.Omega.{arith}
 use Rattle.sheet.specs.Running.{lineLength, after}
 use Rattle.sheet.specs.Steps.{line-length, line-part, line-inside}
 use Rattle.sheet.specs.ClauseLines.{same-line}
-use Rattle.sheet.specs.Section.{clause-more, answer-fits, so-far-one}
+use Rattle.sheet.specs.Section.{clause-more, clause-taken, answer-fits, so-far-one}
 use borrow.Author.Needs.{needs}
 use Rattle.sheet.proofs.clauses.clause_step.Statement.{statement}
 use Rattle.sheet.proofs.clauses.clause_step.Tie as tie
@@ -21,6 +21,12 @@ part-clause-line-end c =
     let s = c .before .before .before .before .before .before .before in
     let g = s .pre .0 in
     omega (arith, line-length (s .args .sheet .now) (s .args .s .place .from) (c .find .ensures), line-inside (g .room) (clause-more g (s .pre .1)))
+
+clause-line-requires : tie.Need-clause-line-requires
+clause-line-requires c κs =
+    let s = c .before .before .before .before .before .before .before .before .before .before in
+    let e = line-length (s .args .sheet .now) (s .args .s .place .from) (c .before .before .before .find .ensures) in
+    (s .pre .0 .slices, (λ k short. clause-taken (s .pre .0) (s .pre .1) k (rw (line-part (s .args .sheet .now) (s .args .s .place .from) e) at short)))
 
 answer-requires : tie.Need-answer-requires
 answer-requires c κs =
@@ -61,7 +67,7 @@ clause-step-spec =
     (λ c. search needs)
     (λ c. search needs)
     part-clause-line-end
-    (λ c κs. search needs)
+    clause-line-requires
     answer-requires
     behind-requires
     (λ c. search needs)
