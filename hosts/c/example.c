@@ -34,5 +34,9 @@ int main(int argc, char **argv)
         fprintf(stderr, "%s: could not be read\n", argv[1]);
         return 1;
     }
-    return print(sigvort_run(sheet, len, answers, sizeof answers)) && fflush(stdout) == 0 ? 0 : 1;
+    if (!print(sigvort_run(sheet, len, answers, sizeof answers)) || fflush(stdout) != 0) {
+        perror("standard output");
+        return 1;
+    }
+    return 0;
 }
