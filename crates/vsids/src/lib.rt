@@ -6,12 +6,13 @@ use lit::NONE;
 use lit::UNASSIGNED;
 ghost use mathlib.Core.Path.{_≡_};
 ghost use mathlib.Core.List.{List};
-ghost use mathlib.Core.Bool.{Bool, false};
+ghost use mathlib.Core.Bool.{Bool, true, false};
 ghost use Prim.Native.Nat.{ℕ, _<_, _≤_};
 ghost use lib.Ieee.{Float};
-ghost use lib.ListN.{length, getD};
+ghost use lib.ListN.{length, getD, replicate};
 ghost use Rattle.lit.specs.Numbers.{maxVars};
 ghost use Rattle.lit.specs.Lits.{index};
+ghost use Rattle.activity.specs.Doubles.{zeroActivity};
 ghost use Rattle.heap.specs.Heap.{placesOf, comesFirst, inHeap};
 ghost use Rattle.heap.specs.Room.{Room, Placed};
 ghost use Rattle.vsids.specs.Vsids as spec;
@@ -30,6 +31,38 @@ pub enum Next {
     Nothing(VsidsState),
 }
 
+// Activities of 0, and all variables switched on.
+fn fill_fresh(activity: &mut [f64], decision: &mut [bool])
+    requires { ⌜ length (now decision) ≡ length (now activity) ⌝ }
+    ensures { λ _. ⌜ (now (activity .exit) ≡ replicate (length (now (activity .entry))) zeroActivity) × (now (decision .exit) ≡ replicate (length (now (activity .entry))) true) ⌝ }
+{
+    let n = activity.len();
+    let mut i = 0;
+    while i < n {
+        activity[i] = ZERO_ACTIVITY;
+        decision[i] = true;
+        i += 1;
+    }
+}
+
+// All variables as members in the order of their numbers, and the fresh step: a fresh chooser, where activities and switches are fresh.
+pub fn all_members(heap: &mut [u32], indices: &mut [u32]) -> VsidsState
+    requires { ⌜ (length (now heap) ≤ maxVars) × (length (now indices) ≡ length (now heap)) ⌝ }
+    ensures { λ r. ⌜ vsidsOf (replicate (length (now (heap .entry))) zeroActivity) (now (heap .exit)) (now (indices .exit)) (replicate (length (now (heap .entry))) true) r ≡ spec.new (length (now (heap .entry))) ⌝ }
+{
+    let n = heap.len();
+    let mut i = 0;
+    while i < n {
+        heap[i] = i as u32;
+        indices[i] = i as u32;
+        i += 1;
+    }
+    VsidsState {
+        len: n as u32,
+        step: Step::fresh(),
+    }
+}
+
 // A fresh chooser: activities 0, all variables members and switched on, the fresh step. Where all activities are equal, members in
 // order of their numbers are a heap.
 pub fn new(
@@ -42,19 +75,8 @@ pub fn new(
     requires { ⌜ (length (now heap) ≡ length (now activity)) × ((length (now indices) ≡ length (now activity)) × (length (now decision) ≡ length (now activity))) ⌝ }
     ensures { λ r. ⌜ vsidsOf (now (activity .exit)) (now (heap .exit)) (now (indices .exit)) (now (decision .exit)) r ≡ spec.new (length (now (activity .entry))) ⌝ }
 {
-    let n = activity.len();
-    let mut i = 0;
-    while i < n {
-        activity[i] = ZERO_ACTIVITY;
-        heap[i] = i as u32;
-        indices[i] = i as u32;
-        decision[i] = true;
-        i += 1;
-    }
-    VsidsState {
-        len: n as u32,
-        step: Step::fresh(),
-    }
+    fill_fresh(activity, decision);
+    all_members(heap, indices)
 }
 
 // Whether a variable is switched on and unassigned.

@@ -1,5 +1,6 @@
 // The check of a lent heap of the heap chooser.
 use activity::MAX_ACTIVITY;
+use activity::ZERO_ACTIVITY;
 use lit::NONE;
 use vsids::VsidsState;
 use vsids::is_open;
@@ -11,6 +12,7 @@ ghost use Rattle.lit.specs.Numbers.{maxVars};
 ghost use Rattle.heap.specs.Heap.{placesOf, comesFirst};
 ghost use Rattle.vsids.specs.Vsids.{vsidsOf};
 ghost use Rattle.vsids.specs.Check as check;
+ghost use Rattle.vsids_check.specs.Untouched as fresh;
 ghost use Rattle.vsids.specs.Check.{SameLengths};
 
 // Whether place i is good: in use it holds a variable whose position it is, and which does not come before its parent; else NONE.
@@ -48,19 +50,52 @@ fn places_ok(activity: &[f64], heap: &[u32], indices: &[u32], len: u32) -> bool
     true
 }
 
-// Whether every activity is in range. Those that are not are counted, a sum that needs no branch.
-fn activities_ok(activity: &[f64]) -> bool
-    ensures { λ r. ⌜ r ≡ every (check.activityOk (now (activity .entry))) (length (now (activity .entry))) ⌝ }
+// Whether every activity is at most `hi`, without sign and no NaN. Those that are not are counted, a sum that needs no branch.
+fn activities_within(hi: f64, activity: &[f64]) -> bool
+    ensures { λ r. ⌜ r ≡ every (fresh.activityWithin hi (now (activity .entry))) (length (now (activity .entry))) ⌝ }
 {
     let mut outside = 0u64;
     let mut v = 0;
     while v < activity.len() {
-        if !activity::within(MAX_ACTIVITY, activity[v]) {
+        if !activity::within(hi, activity[v]) {
             outside += 1;
         }
         v += 1;
     }
     outside == 0
+}
+
+// Whether every element is the number of its place.
+fn in_order(a: &[u32]) -> bool
+    requires { ⌜ length (now a) ≤ maxVars ⌝ }
+    ensures { λ r. ⌜ r ≡ every (fresh.ownPlace (now (a .entry))) (length (now (a .entry))) ⌝ }
+{
+    let mut moved = 0u32;
+    let mut i = 0;
+    while i < a.len() {
+        if a[i] != i as u32 {
+            moved += 1;
+        }
+        i += 1;
+    }
+    moved == 0
+}
+
+// Whether all variables are members in the order of their numbers and no activity is above 0, as in a fresh session.
+fn untouched(activity: &[f64], heap: &[u32], indices: &[u32], len: u32) -> bool
+    requires { ⌜ (length (now heap) ≤ maxVars) × (length (now indices) ≤ maxVars) ⌝ }
+    ensures { λ r. ⌜ r ≡ fresh.untouched len (now (activity .entry)) (now (heap .entry)) (now (indices .entry)) ⌝ }
+{
+    if len as usize != activity.len() {
+        return false;
+    }
+    if !activities_within(ZERO_ACTIVITY, activity) {
+        return false;
+    }
+    if !in_order(heap) {
+        return false;
+    }
+    in_order(indices)
 }
 
 // Whether a variable's position is that of a member, or NONE where the variable is not open.
@@ -111,7 +146,8 @@ fn positions_ok(
     true
 }
 
-// Whether lent memory is a good heap for these values. Where every variable is a member, good places leave no position to be tested.
+// Whether lent memory is a good heap for these values. An untouched heap is good; where every variable is a member, good places leave no
+// position to be tested.
 pub fn check_heap(
     values: &[u8],
     activity: &[f64],
@@ -131,10 +167,13 @@ pub fn check_heap(
     if !activity::good_step(step) {
         return false;
     }
+    if untouched(activity, heap, indices, len) {
+        return true;
+    }
     if !places_ok(activity, heap, indices, len) {
         return false;
     }
-    if !activities_ok(activity) {
+    if !activities_within(MAX_ACTIVITY, activity) {
         return false;
     }
     if len as usize == activity.len() {

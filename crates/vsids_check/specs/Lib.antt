@@ -1,0 +1,2 @@
+-- A heap that nothing has touched.
+pub mod Untouched
