@@ -1,9 +1,9 @@
--- `desk::lines_behind` meets its contract: where no clause line comes next, the session's lines are all.
+-- `desk_lines::lines_behind` meets its contract: where no clause line comes next, the session's lines are all.
 use mathlib.Core.Path.{refl, sym, _∙_}
-use Rattle.desk.specs.First.{modeOf, session-ended}
+use Rattle.desk_lines.specs.Behind.{modeOf, session-ended}
 use borrow.Author.Needs.{needs}
-use Rattle.desk.proofs.lines_behind.Statement.{statement}
-use Rattle.desk.proofs.lines_behind.Tie as tie
+use Rattle.desk_lines.proofs.lines_behind.Statement.{statement}
+use Rattle.desk_lines.proofs.lines_behind.Tie as tie
 
 returns-2 : tie.Need-returns-2
 returns-2 c =

@@ -1,9 +1,15 @@
--- `desk::session_lines` meets its contract: the mode tells whose lines they are.
+-- `desk_lines::session_lines` meets its contract: the mode tells whose lines they are.
 use mathlib.Core.Path.{_≡_}
 use mathlib.Core.Bool.{true, false}
 use borrow.Author.Needs.{needs}
-use Rattle.desk.proofs.session_lines.Statement.{statement}
-use Rattle.desk.proofs.session_lines.Tie as tie
+use Rattle.desk_lines.proofs.session_lines.Statement.{statement}
+use Rattle.desk_lines.proofs.session_lines.Tie as tie
+
+rest-requires : tie.Need-rest-requires
+rest-requires c κs =
+    let s = c .before .before .before .before .before .before .before .before in
+    let heap : s .args .heap ≡ true = search needs in
+    (s .pre .0, s .pre .1, s .pre .2, s .pre .3 heap)
 
 returns : tie.Need-returns
 returns c =
@@ -21,7 +27,7 @@ pub session-lines-spec : {M : Type 1} → statement M
 session-lines-spec =
     tie.close
     (tie.spec
-    (λ c κs. c .before .before .before .before .before .before .before .before .pre)
+    rest-requires
     (λ c. c .before .before .before .before .rest .kept .1 .0)
     (λ c. c .before .before .before .before .rest .kept .1 .1 .0)
     returns

@@ -1,10 +1,10 @@
--- `desk::clauses_with` meets its contract: what the session's lines end, the clause lines before them end too.
+-- `desk_lines::clauses_with` meets its contract: what the session's lines end, the clause lines before them end too.
 use mathlib.Core.Path.{sym, _∙_}
 use lib.Seq.{length-take-le}
-use Rattle.desk.specs.First.{modeOf, ready-first, section-ended}
+use Rattle.desk_lines.specs.Behind.{modeOf, ready-first, section-ended}
 use borrow.Author.Needs.{needs}
-use Rattle.desk.proofs.clauses_with.Statement.{statement}
-use Rattle.desk.proofs.clauses_with.Tie as tie
+use Rattle.desk_lines.proofs.clauses_with.Statement.{statement}
+use Rattle.desk_lines.proofs.clauses_with.Tie as tie
 
 slice-aggregate-session-lines : tie.Need-slice-aggregate-session-lines
 slice-aggregate-session-lines c =

@@ -1,8 +1,8 @@
--- `desk::clause_lines_first` meets its contract: the clauses of a short sheet fit in the short slices, any clause list in the long ones.
+-- `desk_lines::clause_lines_first` meets its contract: the clauses of a short sheet fit in the short slices, any clause list in the long ones.
 use mathlib.Core.Path.{refl}
 use native.Mathlib.Omega.{arith}
-use Rattle.desk.proofs.clause_lines_first.Statement.{statement}
-use Rattle.desk.proofs.clause_lines_first.Tie as tie
+use Rattle.desk_lines.proofs.clause_lines_first.Statement.{statement}
+use Rattle.desk_lines.proofs.clause_lines_first.Tie as tie
 
 clauses-with-requires : tie.Need-clauses-with-requires
 clauses-with-requires c κs =
@@ -16,6 +16,7 @@ pub clause-lines-first-spec : {M : Type 1} → statement M
 clause-lines-first-spec =
     tie.close
     (tie.spec
+    (λ c. omega arith)
     (λ c. refl)
     (λ c. refl)
     clauses-with-requires
