@@ -6,6 +6,7 @@ ghost use lib.Ieee.{binary64, ofBits};
 ghost use lib.ListN.{length};
 ghost use Rattle.text.specs.Text as spec;
 ghost use Rattle.text.specs.Read.{wholeOf, bitsOf};
+ghost use Rattle.text.specs.Reading.{block};
 use lit::NONE;
 
 pub const TAB: u8 = 9;
@@ -35,8 +36,12 @@ pub fn find(bytes: &[u8], b: u8) -> usize
     i
 }
 
-// How often a byte stands in the bytes.
-pub fn occurs(bytes: &[u8], b: u8) -> usize
+// So many bytes are counted at a time: a count below 256 is kept in a byte, which is faster.
+const BLOCK: usize = 240;
+
+// How often a byte stands in at most so many bytes.
+fn occurs_in_block(bytes: &[u8], b: u8) -> u8
+    requires { ⌜ length (now bytes) ≤ block ⌝ }
     ensures { λ r. ⌜ r ≡ spec.occurs b (now (bytes .entry)) ⌝ }
 {
     let mut count = 0;
@@ -48,6 +53,19 @@ pub fn occurs(bytes: &[u8], b: u8) -> usize
         i += 1;
     }
     count
+}
+
+// How often a byte stands in the bytes.
+pub fn occurs(bytes: &[u8], b: u8) -> usize
+    ensures { λ r. ⌜ r ≡ spec.occurs b (now (bytes .entry)) ⌝ }
+{
+    let mut count = 0;
+    let mut i = 0;
+    while bytes.len() - i > BLOCK {
+        count += occurs_in_block(&bytes[i..i + BLOCK], b) as usize;
+        i += BLOCK;
+    }
+    count + occurs_in_block(&bytes[i..], b) as usize
 }
 
 // A whole number in decimal: no leading zero, at most 4294967295.
