@@ -30,6 +30,7 @@ use table::SETS_DECAY;
 use table::SWITCHES_OFF;
 use table::kind;
 use text::Bits;
+use text::Field;
 use text::TAB;
 use text::Whole;
 
@@ -129,8 +130,7 @@ fn read_numbers(bytes: &[u8], out: &mut [u32]) -> Count
     let mut n = 0;
     let mut at = 0;
     loop {
-        let end = at + text::find(&bytes[at..], TAB);
-        let Whole::Is(v) = text::number(&bytes[at..end]) else {
+        let Field::Is(v, end) = text::number_at(bytes, at) else {
             return Count::Bad;
         };
         put(out, n, v);

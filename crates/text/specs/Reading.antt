@@ -125,6 +125,21 @@ number-zero [] e h = absurd (omega arith)
 number-zero (b ∷ []) e h = absurd (omega arith)
 number-zero (b ∷ (c ∷ bs)) e h = rw (eq-eqb b 48 e, and-false (isDigit b))
 
+-- no digits that give a number, so none at all
+pub digits-none : (bs : List ℕ) → numberFrom 0 bs ≡ none → number bs ≡ none
+digits-none [] e = number-empty [] refl
+digits-none (b ∷ []) e = number-starts (b ∷ []) (omega arith) (λ z l. omega arith) ∙ e
+digits-none (b ∷ (c ∷ bs)) e = by-cases (ℕ-discrete b 48) (λ z. number-zero (b ∷ (c ∷ bs)) z (omega arith)) (λ z. number-starts (b ∷ (c ∷ bs)) (omega arith) (λ w l. z w) ∙ e)
+
+-- the field from the front up to the first such byte
+abbrev pub upTo : ℕ → List ℕ → List ℕ
+upTo b l = take (find b l) l
+
+module _ (b : ℕ) (l : List ℕ) (i : ℕ) where
+  pub field-next : i < length l → (getD l i 0 ≡ b → ⊥) → upTo b (drop i l) ≡ getD l i 0 ∷ upTo b (drop (i + 1) l)
+  unfolding find
+  field-next h n = rw (next-byte l i h, ne-eqb (getD l i 0) b n)
+
 -- the value of a byte as a hexadecimal digit, and 16 where it is none
 abbrev pub hexValue : ℕ → ℕ
 hexValue b = cond (isHex b) (hexDigit b) 16
