@@ -1,9 +1,11 @@
 -- `desk_lines::lines_behind` meets its contract: where no clause line comes next, the session's lines are all.
 use mathlib.Core.Path.{refl, sym, _∙_}
-use Rattle.desk_lines.specs.Behind.{modeOf, session-ended}
-use borrow.Author.Needs.{needs}
+use Rattle.desk_lines.specs.Behind.{modeOf, session-ended, no-clauses}
 use Rattle.desk_lines.proofs.lines_behind.Statement.{statement}
 use Rattle.desk_lines.proofs.lines_behind.Tie as tie
+
+session-lines-requires : tie.Need-session-lines-requires
+session-lines-requires c κs = let s = c .before .before .before .before .before .before .before .before .before in (s .pre .0, s .pre .1, no-clauses (s .args .n), s .pre .2)
 
 returns-2 : tie.Need-returns-2
 returns-2 c =
@@ -21,7 +23,7 @@ lines-behind-spec =
     (λ c. c .before .before .before .before .clause-lines-first .ensures)
     (λ c. refl)
     (λ c. refl)
-    (λ c κs. search needs)
+    session-lines-requires
     (λ c. c .before .before .before .before .session-lines .kept .1 .0)
     (λ c. c .before .before .before .before .session-lines .kept .1 .1 .0)
     returns-2)
