@@ -7,8 +7,7 @@ use mathlib.Core.List.{List, []}
 use native.Mathlib.Omega.{arith}
 use borrow.Author.Tests.{le-leb, lt-leb}
 use lib.ListN.{length, take}
-use Rattle.lit.specs.Numbers.{maxVars, maxLiterals, answerRoom, manyVars}
-use Rattle.formula.specs.Good.{GoodClauses}
+use Rattle.lit.specs.Numbers.{maxVars, answerRoom, manyVars}
 use Rattle.book.specs.Session.{need}
 use Rattle.text.specs.Text.{lines, written}
 use Rattle.forms.specs.declared.First as code
@@ -16,22 +15,18 @@ use Rattle.forms.specs.declared.First.the-variants as first
 use Rattle.forms.specs.Forms.{Mode, vsids, vmtf, Opening, firstIn}
 use Rattle.forms.specs.Read.{inMode, firstOf}
 use Rattle.sheet.specs.declared.Place.{Place}
-use Rattle.sheet.specs.declared.clauses.Section.{Section}
-use Rattle.sheet.specs.Sheet.{reading, opened, answerLine, answers, opening, started, answered}
+use Rattle.sheet.specs.Sheet.{reading, answerLine, answers, opening, started, answered}
 use Rattle.sheet.specs.Writing.{Wrote, put-more}
 use Rattle.sheet.specs.Bounds.{answer-short}
-use Rattle.sheet.specs.Running.{linesFrom, lineLength, lineFrom, after, Room, Ended, nextClause, stageOf, Holds, Ready, SoFar}
+use Rattle.sheet.specs.Running.{linesFrom, lineLength, lineFrom, after, Room, Ended}
+use Rattle.desk_lines.specs.Behind.{modeOf}
 use Rattle.sheet.specs.Steps.{lines-more, answer-room, room-behind}
-use Rattle.sheet.specs.ClauseLines.{section-over}
 
 -- where a run stands at the first of so many lines
 abbrev pub atFirst : ℕ → Place
 atFirst count = record { from = 0; left = count; line = 1; at = 0 }
 
 -- what a first line opens, as code has it
-abbrev pub modeOf : Bool → Mode
-modeOf heap = cond heap vsids vmtf
-
 abbrev pub openingAt : Bool → ℕ → Opening
 openingAt heap n = record { mode = modeOf heap; vars = n }
 
@@ -85,35 +80,3 @@ module _ (heap : Bool) (n : ℕ) where
       → Wrote 0 (started (opening (some (openingAt heap n))) (linesFrom sheet (end + 1))) out out″ r
   unfolding need
   first-opened few sheet count end w e = rw (le-leb n maxVars few) (put-more w (record { buffer = e .buffer; place = e .count }))
-
--- where no clause line comes next, what ends the run from the session on ends it
-module _ (mode : Mode) {n r : ℕ} {sheet lits ends out out′ : List ℕ} {p : Place} where
-  pub session-ended : nextClause (linesFrom sheet (p .from)) ≡ false → Ended sheet p (opened mode n lits ends) out r out′ → Ended sheet p (reading mode n lits ends) out r out′
-  session-ended over x =
-      let e = sym (section-over (p .line) mode n lits ends (linesFrom sheet (p .from)) over) in
-      record { buffer = x .buffer ∙ ap (λ (a : List ℕ). written (p .at) a out) e; count = x .count ∙ ap (λ (a : List ℕ). p .at + length a) e }
-
--- before the first clause line there are no clauses, and the slices have room for those to come
-pub no-clauses : (n : ℕ) → GoodClauses n [] []
-no-clauses n = record {
-  list = record { few-clauses = omega arith; few-literals = omega arith; never-fall = λ i j h b. absurd (omega arith); last-end = λ some. absurd (omega arith); no-clauses = λ none. refl };
-  below = λ i h. absurd (omega arith);
-}
-
-pub ready-first : {n : ℕ} {sheet out lits ends : List ℕ} {p : Place} → Room sheet p out → Holds sheet lits ends → length lits ≤ maxLiterals → Ready n sheet (record { place = p; literals = 0; clauses = 0 }) out lits ends
-ready-first {n} room holds short = record {
-  room = room;
-  slices = record { lits-short = short; few-literals = omega arith; few-clauses = omega arith };
-  holds = holds;
-  read-literals = omega arith;
-  read-clauses = omega arith;
-  good = no-clauses n;
-}
-
--- the clause lines answered, it ends it from the first of them on
-pub section-ended : (mode : Mode) {n r : ℕ} {sheet out lits ends out′ lits′ ends′ out″ : List ℕ} {s u : Section} → SoFar n sheet s out lits ends u out′ lits′ ends′
-    → nextClause (linesFrom sheet (u .place .from)) ≡ false → Ended sheet (u .place) (opened mode n (take (u .literals) lits′) (take (u .clauses) ends′)) out′ r out″
-    → Ended sheet (s .place) (stageOf mode n lits ends s) out r out″
-section-ended mode so over x =
-    let y = session-ended mode over x in
-    record { buffer = y .buffer ∙ so .end mode .buffer; count = y .count ∙ so .end mode .count }

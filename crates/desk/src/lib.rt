@@ -2,18 +2,15 @@
 ghost use mathlib.Core.Path.{_≡_};
 ghost use mathlib.Core.Bool.{Bool};
 ghost use mathlib.Core.Option.{some};
-ghost use mathlib.Core.List.{[]};
 ghost use Prim.Native.Nat.{_+_, _*_, _≤_, _<_};
 ghost use lib.ListN.{length};
 ghost use Rattle.lit.specs.Numbers as number;
-ghost use Rattle.formula.specs.Good.{GoodClauses};
 ghost use Rattle.text.specs.Text as text-spec;
-ghost use Rattle.forms.specs.Forms.{vsids, vmtf};
-ghost use Rattle.sheet.specs.Sheet.{reading, opened, answered, ran, result, bytes};
+ghost use Rattle.sheet.specs.Sheet.{answered, ran, result, bytes};
 ghost use Rattle.sheet.specs.Sheet as spec;
 ghost use Rattle.sheet.specs.Writing.{Wrote};
-ghost use Rattle.sheet.specs.Running.{linesFrom, lineLength, Room, Holds, Ended};
-ghost use Rattle.desk.specs.First.{atFirst, modeOf, openingAt};
+ghost use Rattle.sheet.specs.Running.{linesFrom, lineLength, Room};
+ghost use Rattle.desk.specs.First.{atFirst, openingAt};
 ghost use Rattle.desk.specs.Ran.{printed};
 use forms::First;
 use lit::ANSWER_ROOM;
@@ -27,114 +24,7 @@ use lit::SHORT_BUFFER;
 use sheet::Place;
 use sheet::answer;
 use sheet::behind;
-use sheet::clauses::Section;
-use sheet::clauses::clause_lines;
-use sheet::clauses::next_is_clause;
 use text::NEWLINE;
-
-// The session's lines, in heap or in list mode.
-fn session_lines(
-    sheet: &[u8],
-    out: &mut [u8],
-    positions: &mut [u32],
-    heap: bool,
-    n: u32,
-    lits: &[u32],
-    ends: &[u32],
-    p: Place,
-) -> usize
-    requires { ⌜ Room (now sheet) p (now out) × (n ≤ number.maxVars) × GoodClauses n (now lits) (now ends) × (length (now positions) ≡ number.maxVars) ⌝ }
-    ensures { λ r. ⌜ Ended (now (sheet .entry)) p (opened (modeOf heap) n (now (lits .entry)) (now (ends .entry))) (now (out .entry)) r (now (out .exit)) ⌝ }
-{
-    if heap {
-        return heap_rest::rest(sheet, out, positions, n, lits, ends, p);
-    }
-    list_rest::rest(sheet, out, n, lits, ends, p)
-}
-
-// The clause lines, with slices for their clauses, then the session's.
-fn clauses_with(
-    sheet: &[u8],
-    out: &mut [u8],
-    positions: &mut [u32],
-    heap: bool,
-    n: u32,
-    lits: &mut [u32],
-    ends: &mut [u32],
-    p: Place,
-) -> usize
-    requires { ⌜ Room (now sheet) p (now out) × (n ≤ number.maxVars) × (length (now positions) ≡ number.maxVars) ⌝ }
-    requires { ⌜ Holds (now sheet) (now lits) (now ends) × (length (now lits) ≤ number.maxLiterals) ⌝ }
-    ensures { λ r. ⌜ Ended (now (sheet .entry)) p (reading (modeOf heap) n [] []) (now (out .entry)) r (now (out .exit)) ⌝ }
-{
-    let s = clause_lines(
-        sheet,
-        out,
-        n,
-        lits,
-        ends,
-        Section {
-            place: p,
-            literals: 0,
-            clauses: 0,
-        },
-    );
-    let literals = s.literals as usize;
-    let clauses = s.clauses as usize;
-    let q = s.place;
-    session_lines(
-        sheet,
-        out,
-        positions,
-        heap,
-        n,
-        &lits[..literals],
-        &ends[..clauses],
-        q,
-    )
-}
-
-// The lines behind the first where clause lines come next. On a short sheet the slices for clauses are short: a literal takes two bytes at
-// least, and so does a clause line.
-fn clause_lines_first(
-    sheet: &[u8],
-    out: &mut [u8],
-    positions: &mut [u32],
-    heap: bool,
-    n: u32,
-    p: Place,
-) -> usize
-    requires { ⌜ Room (now sheet) p (now out) × (n ≤ number.maxVars) × (length (now positions) ≡ number.maxVars) ⌝ }
-    ensures { λ r. ⌜ Ended (now (sheet .entry)) p (reading (modeOf heap) n [] []) (now (out .entry)) r (now (out .exit)) ⌝ }
-{
-    if sheet.len() <= 512 {
-        let mut lits = [0u32; 256];
-        let mut ends = [0u32; 256];
-        return clauses_with(sheet, out, positions, heap, n, &mut lits, &mut ends, p);
-    }
-    let mut lits = [0u32; 8192];
-    let mut ends = [0u32; 2048];
-    clauses_with(sheet, out, positions, heap, n, &mut lits, &mut ends, p)
-}
-
-// The lines behind the first, in heap or in list mode. Without clause lines the slices for clauses are not set up.
-fn lines_behind(
-    sheet: &[u8],
-    out: &mut [u8],
-    positions: &mut [u32],
-    heap: bool,
-    n: u32,
-    p: Place,
-) -> usize
-    requires { ⌜ Room (now sheet) p (now out) × (n ≤ number.maxVars) × (length (now positions) ≡ number.maxVars) ⌝ }
-    ensures { λ r. ⌜ Ended (now (sheet .entry)) p (reading (modeOf heap) n [] []) (now (out .entry)) r (now (out .exit)) ⌝ }
-{
-    if next_is_clause(sheet, p) {
-        return clause_lines_first(sheet, out, positions, heap, n, p);
-    }
-    let none = [0u32; 0];
-    session_lines(sheet, out, positions, heap, n, &none, &none, p)
-}
 
 // Answers a first line that has its form and ends at `end`: refusal 4, or the session with the lines behind it.
 fn open(
@@ -146,7 +36,7 @@ fn open(
     heap: bool,
     n: u32,
 ) -> usize
-    requires { ⌜ Room (now sheet) (atFirst count) (now out) × (0 < count) × (end ≡ lineLength (now sheet) 0) × (length (now positions) ≡ number.maxVars) ⌝ }
+    requires { ⌜ Room (now sheet) (atFirst count) (now out) × (0 < count) × (end ≡ lineLength (now sheet) 0) ⌝ }
     ensures { λ r. ⌜ Wrote 0 (spec.started (spec.opening (some (openingAt heap n))) (linesFrom (now (sheet .entry)) (end + 1))) (now (out .entry)) (now (out .exit)) r ⌝ }
 {
     if n > MAX_VARS {
@@ -160,12 +50,12 @@ fn open(
         at: 0,
     };
     let p = behind(first, end, at);
-    lines_behind(sheet, out, positions, heap, n, p)
+    desk_lines::with_positions(sheet, out, positions, heap, n, p)
 }
 
 // Answers a sheet of so many lines, and gives the count of bytes.
 fn answer_all(sheet: &[u8], out: &mut [u8], positions: &mut [u32], count: u32) -> usize
-    requires { ⌜ Room (now sheet) (atFirst count) (now out) × (0 < count) × (length (now positions) ≡ number.maxVars) ⌝ }
+    requires { ⌜ Room (now sheet) (atFirst count) (now out) × (0 < count) ⌝ }
     ensures { λ r. ⌜ Wrote 0 (answered (text-spec.lines (now (sheet .entry)))) (now (out .entry)) (now (out .exit)) r ⌝ }
 {
     let end = text::find(sheet, NEWLINE);
@@ -176,9 +66,9 @@ fn answer_all(sheet: &[u8], out: &mut [u8], positions: &mut [u32], count: u32) -
     }
 }
 
-// Runs a sheet: gives the count of bytes written to `out`, or 4294967295 minus refusal 1 or 2. The positions are working memory for the heap.
+// Runs a sheet: gives the count of bytes written to `out`, or 4294967295 minus refusal 1 or 2. The positions are working memory for the heap,
+// which takes its own where they are too few; what they hold afterwards is left open.
 pub fn run(sheet: &[u8], out: &mut [u8], positions: &mut [u32]) -> u32
-    requires { ⌜ length (now positions) ≡ number.maxVars ⌝ }
     ensures { λ r. ⌜ r ≡ result (ran (now (sheet .entry)) (length (now (out .entry)))) ⌝ }
     ensures { λ _. ⌜ now (out .exit) ≡ text-spec.written 0 (bytes (ran (now (sheet .entry)) (length (now (out .entry))))) (now (out .entry)) ⌝ }
 {
@@ -197,7 +87,7 @@ pub fn run(sheet: &[u8], out: &mut [u8], positions: &mut [u32]) -> u32
 
 // Runs a sheet for the program: what it prints stands at the front of `out`, the answers or refusal 1 or 2 alone on a line, and so many bytes.
 pub fn print(sheet: &[u8], out: &mut [u8], positions: &mut [u32]) -> usize
-    requires { ⌜ (length (now positions) ≡ number.maxVars) × (2 ≤ length (now out)) ⌝ }
+    requires { ⌜ 2 ≤ length (now out) ⌝ }
     ensures { λ r. ⌜ Wrote 0 (printed (ran (now (sheet .entry)) (length (now (out .entry))))) (now (out .entry)) (now (out .exit)) r ⌝ }
     ensures { λ r. ⌜ r ≤ length (now (out .entry)) ⌝ }
 {
@@ -210,12 +100,12 @@ pub fn print(sheet: &[u8], out: &mut [u8], positions: &mut [u32]) -> usize
     2
 }
 
-// The entry for hosts: as `run`, with positions of its own.
+// The entry for hosts: as `run`, with no positions lent.
 #[no_mangle]
 pub extern "C" fn sigvort_run(sheet: &[u8], out: &mut [u8]) -> u32
     ensures { λ r. ⌜ r ≡ result (ran (now (sheet .entry)) (length (now (out .entry)))) ⌝ }
     ensures { λ _. ⌜ now (out .exit) ≡ text-spec.written 0 (bytes (ran (now (sheet .entry)) (length (now (out .entry))))) (now (out .entry)) ⌝ }
 {
-    let mut positions = [NONE; 2048];
-    run(sheet, out, &mut positions)
+    let mut none = [NONE; 0];
+    run(sheet, out, &mut none)
 }

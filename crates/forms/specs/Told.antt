@@ -10,8 +10,9 @@ use lib.ListN.{length, take, drop}
 use borrow.Author.Tests.{le-leb, lt-leb}
 use Rattle.lit.specs.Numbers.{maxGroup}
 use Rattle.text.specs.declared.Whole.the-variants as a-whole
+use Rattle.text.specs.declared.Field.the-variants as a-field
 use Rattle.text.specs.declared.Bits.the-variants as a-pattern
-use Rattle.text.specs.Read.{wholeOf, bitsOf}
+use Rattle.text.specs.Read.{wholeOf, fieldOf, bitsOf}
 use Rattle.book.specs.Calls.{Call, group}
 use Rattle.forms.specs.declared.Count as count
 use Rattle.forms.specs.declared.Count.the-variants as a-count
@@ -27,6 +28,14 @@ whole-is (some n) e = cc
 pub whole-bad : (o : Option ℕ) → wholeOf o ≡ a-whole.Bad → o ≡ none
 whole-bad none e = refl
 whole-bad (some n) e = let z : _≡_ {A = ℕ} 0 1 = cc in absurd (omega arith)
+
+pub field-is : (o : Option ℕ) (end : ℕ) {v k : ℕ} → fieldOf end o ≡ a-field.Is v k → (o ≡ some v) × (k ≡ end)
+field-is none end e = let z : _≡_ {A = ℕ} 0 1 = cc in absurd (omega arith)
+field-is (some n) end e = (cc, cc)
+
+pub field-bad : (o : Option ℕ) (end : ℕ) → fieldOf end o ≡ a-field.Bad → o ≡ none
+field-bad none end e = refl
+field-bad (some n) end e = let z : _≡_ {A = ℕ} 0 1 = cc in absurd (omega arith)
 
 pub bits-are : (o : Option ℕ) {p : ℕ} → bitsOf o ≡ a-pattern.Are p → o ≡ some p
 bits-are none e = let z : _≡_ {A = ℕ} 0 1 = cc in absurd (omega arith)

@@ -18,7 +18,6 @@ use lit::MAX_GROUP;
 use lit::NONE;
 use table::BUMPS;
 use table::BUMPS_REASON;
-use table::CLAUSE;
 use table::DECAYS;
 use table::DECIDES;
 use table::ENQUEUES;
@@ -31,6 +30,7 @@ use table::SETS_DECAY;
 use table::SWITCHES_OFF;
 use table::kind;
 use text::Bits;
+use text::Field;
 use text::TAB;
 use text::Whole;
 
@@ -54,6 +54,9 @@ pub enum First {
     Bad,
 }
 
+// Clause lines begin with `c`. There are many: this test is faster than the table of all first bytes.
+const CLAUSE_LETTER: u8 = 99;
+
 // Whether a line begins as clause lines do.
 pub fn begins_clause(line: &[u8]) -> bool
     ensures { λ r. ⌜ r ≡ spec.beginsClause (now (line .entry)) ⌝ }
@@ -61,7 +64,7 @@ pub fn begins_clause(line: &[u8]) -> bool
     if line.len() == 0 {
         return false;
     }
-    kind(line[0]) == CLAUSE
+    line[0] == CLAUSE_LETTER
 }
 
 // Whether the bytes of a field are these.
@@ -127,8 +130,7 @@ fn read_numbers(bytes: &[u8], out: &mut [u32]) -> Count
     let mut n = 0;
     let mut at = 0;
     loop {
-        let end = at + text::find(&bytes[at..], TAB);
-        let Whole::Is(v) = text::number(&bytes[at..end]) else {
+        let Field::Is(v, end) = text::number_at(bytes, at) else {
             return Count::Bad;
         };
         put(out, n, v);
@@ -256,6 +258,14 @@ pub fn read_call(line: &[u8]) -> Read
         _ => read_one(k, line),
     }
 }
+
+// Lengths of scratch for a group: each variable takes two bytes of its line at least, so a short line needs little, and that is set up sooner.
+// `MANY` is enough for any line.
+pub const FEW: usize = 64;
+
+pub const SOME: usize = 512;
+
+pub const MANY: usize = MAX_GROUP as usize;
 
 // The variables of a group, in front in vars: at most 2,048.
 pub fn read_group(line: &[u8], vars: &mut [u32]) -> Count

@@ -1,46 +1,28 @@
 // The rest of a run in heap mode, once the clause lines are read: the session is made fresh and checked once, and its lines are done.
 ghost use mathlib.Core.Path.{_≡_};
+ghost use mathlib.Core.Bool.{true};
 ghost use Prim.Native.Nat.{_≤_};
-ghost use lib.ListN.{length};
+ghost use lib.ListN.{length, replicate};
 ghost use Rattle.lit.specs.Numbers as number;
 ghost use Rattle.formula.specs.Good.{GoodClauses};
 ghost use Rattle.trail.specs.Trail.{freshTrail};
-ghost use Rattle.trail.specs.Memory.{Lengths, trailOf};
-ghost use Rattle.vsids.specs.Vsids.{vsidsOf};
-ghost use Rattle.vsids.specs.Vsids as vsids-spec;
+ghost use Rattle.trail.specs.Memory.{trailOf};
+ghost use Rattle.activity.specs.Doubles.{zeroActivity};
 ghost use Rattle.forms.specs.Forms.{vsids};
 ghost use Rattle.sheet.specs.Sheet as spec;
 ghost use Rattle.sheet.specs.Running.{Room, Ended};
+ghost use Rattle.heap_rest.specs.Start.{atStart, Blank};
+use activity::ZERO_ACTIVITY;
 use heap_calls::HeapState;
 use heap_run::HeapPlace;
+use lit::MAX_VARS;
 use lit::NONE;
 use lit::UNASSIGNED;
 use sheet::Place;
+use trail::TrailState;
 
-// The states of a fresh session in slices of one length.
-fn start(
-    values: &mut [u8],
-    levels: &mut [u32],
-    reasons: &mut [u32],
-    trail: &mut [u32],
-    opened: &mut [u32],
-    activity: &mut [f64],
-    heap: &mut [u32],
-    indices: &mut [u32],
-    decision: &mut [bool],
-) -> HeapState
-    requires { ⌜ Lengths (length (now values)) (now values) (now levels) (now reasons) (now trail) (now opened) ⌝ }
-    requires { ⌜ length (now activity) ≤ number.maxVars ⌝ }
-    requires { ⌜ (length (now heap) ≡ length (now activity)) × ((length (now indices) ≡ length (now activity)) × (length (now decision) ≡ length (now activity))) ⌝ }
-    ensures { λ r. ⌜ trailOf (now (values .exit)) (now (levels .exit)) (now (reasons .exit)) (now (trail .exit)) (now (opened .exit)) (r .trail) ≡ freshTrail (length (now (values .entry))) ⌝ }
-    ensures { λ r. ⌜ vsidsOf (now (activity .exit)) (now (heap .exit)) (now (indices .exit)) (now (decision .exit)) (r .vsids) ≡ vsids-spec.new (length (now (activity .entry))) ⌝ }
-{
-    let t = trail::new_trail(values, levels, reasons, trail, opened);
-    let h = vsids::new(activity, heap, indices, decision);
-    HeapState { trail: t, vsids: h }
-}
-
-// Does the lines of a session from a fresh one on and answers them, and gives the place behind the answers.
+// Does the lines of a session from a fresh one on and answers them, and gives the place behind the answers. The memory is fresh but for the
+// members and their positions.
 fn heap_session(
     sheet: &[u8],
     out: &mut [u8],
@@ -59,21 +41,17 @@ fn heap_session(
     p: Place,
 ) -> usize
     requires { ⌜ Room (now sheet) p (now out) × (n ≤ number.maxVars) × GoodClauses n (now lits) (now ends) ⌝ }
-    requires { ⌜ Lengths n (now values) (now levels) (now reasons) (now trail) (now opened) ⌝ }
-    requires { ⌜ (length (now activity) ≡ n) × (length (now heap) ≡ n) × (length (now indices) ≡ n) × (length (now decision) ≡ n) ⌝ }
+    requires { ⌜ trailOf (now values) (now levels) (now reasons) (now trail) (now opened) atStart ≡ freshTrail n ⌝ }
+    requires { ⌜ (now activity ≡ replicate n zeroActivity) × (length (now heap) ≡ n) × (length (now indices) ≡ n) × (now decision ≡ replicate n true) ⌝ }
     ensures { λ r. ⌜ Ended (now (sheet .entry)) p (spec.opened vsids n (now (lits .entry)) (now (ends .entry))) (now (out .entry)) r (now (out .exit)) ⌝ }
 {
-    let s = start(
-        values,
-        levels,
-        reasons,
-        trail,
-        opened,
-        activity,
-        heap,
-        indices,
-        decision,
-    );
+    let t = TrailState {
+        len: 0,
+        level: 0,
+        curr_i: 0,
+    };
+    let h = vsids::all_members(heap, indices);
+    let s = HeapState { trail: t, vsids: h };
     if !heap_mode::check_state(
         ends.len() as u32,
         values,
@@ -108,31 +86,29 @@ fn heap_session(
     )
 }
 
-// At most so many variables are few: their session is made in short arrays, since setting up long ones costs more than a short run.
-const FEW: u32 = 256;
-
-// The rest with few variables. The positions are the heap's.
-fn few(
+// The same in arrays as they are set up, which have room for n variables. The positions are the heap's.
+fn in_arrays(
     sheet: &[u8],
     out: &mut [u8],
     positions: &mut [u32],
     n: u32,
     lits: &[u32],
     ends: &[u32],
+    values: &mut [u8],
+    levels: &mut [u32],
+    reasons: &mut [u32],
+    trail: &mut [u32],
+    opened: &mut [u32],
+    activity: &mut [f64],
+    heap: &mut [u32],
+    decision: &mut [bool],
     p: Place,
 ) -> usize
-    requires { ⌜ Room (now sheet) p (now out) × (n ≤ 256) × GoodClauses n (now lits) (now ends) × (length (now positions) ≡ number.maxVars) ⌝ }
+    requires { ⌜ Room (now sheet) p (now out) × (n ≤ number.maxVars) × GoodClauses n (now lits) (now ends) × (n ≤ length (now positions)) ⌝ }
+    requires { ⌜ Blank n (now values) (now levels) (now reasons) (now trail) (now opened) (now activity) (now heap) (now decision) ⌝ }
     ensures { λ r. ⌜ Ended (now (sheet .entry)) p (spec.opened vsids n (now (lits .entry)) (now (ends .entry))) (now (out .entry)) r (now (out .exit)) ⌝ }
 {
     let k = n as usize;
-    let mut values = [UNASSIGNED; FEW as usize];
-    let mut levels = [NONE; FEW as usize];
-    let mut reasons = [NONE; FEW as usize];
-    let mut trail = [NONE; FEW as usize];
-    let mut opened = [NONE; FEW as usize];
-    let mut activity = [0.0; FEW as usize];
-    let mut heap = [NONE; FEW as usize];
-    let mut decision = [true; FEW as usize];
     heap_session(
         sheet,
         out,
@@ -152,8 +128,8 @@ fn few(
     )
 }
 
-// The rest with any number of variables.
-fn many(
+// The rest of a run with at most 64 variables: setting up long arrays costs more than a short run.
+fn in_64(
     sheet: &[u8],
     out: &mut [u8],
     positions: &mut [u32],
@@ -162,33 +138,152 @@ fn many(
     ends: &[u32],
     p: Place,
 ) -> usize
-    requires { ⌜ Room (now sheet) p (now out) × (n ≤ number.maxVars) × GoodClauses n (now lits) (now ends) × (length (now positions) ≡ number.maxVars) ⌝ }
+    requires { ⌜ Room (now sheet) p (now out) × (n ≤ 64) × GoodClauses n (now lits) (now ends) × (n ≤ length (now positions)) ⌝ }
     ensures { λ r. ⌜ Ended (now (sheet .entry)) p (spec.opened vsids n (now (lits .entry)) (now (ends .entry))) (now (out .entry)) r (now (out .exit)) ⌝ }
 {
-    let k = n as usize;
-    let mut values = [UNASSIGNED; 2048];
-    let mut levels = [NONE; 2048];
-    let mut reasons = [NONE; 2048];
-    let mut trail = [NONE; 2048];
-    let mut opened = [NONE; 2048];
-    let mut activity = [0.0; 2048];
-    let mut heap = [NONE; 2048];
-    let mut decision = [true; 2048];
-    heap_session(
+    let mut values = [UNASSIGNED; 64];
+    let mut levels = [NONE; 64];
+    let mut reasons = [NONE; 64];
+    let mut trail = [NONE; 64];
+    let mut opened = [NONE; 64];
+    let mut activity = [ZERO_ACTIVITY; 64];
+    let mut heap = [NONE; 64];
+    let mut decision = [true; 64];
+    in_arrays(
         sheet,
         out,
+        positions,
         n,
         lits,
         ends,
-        &mut values[..k],
-        &mut levels[..k],
-        &mut reasons[..k],
-        &mut trail[..k],
-        &mut opened[..k],
-        &mut activity[..k],
-        &mut heap[..k],
-        &mut positions[..k],
-        &mut decision[..k],
+        &mut values,
+        &mut levels,
+        &mut reasons,
+        &mut trail,
+        &mut opened,
+        &mut activity,
+        &mut heap,
+        &mut decision,
+        p,
+    )
+}
+
+// The same with at most 256.
+fn in_256(
+    sheet: &[u8],
+    out: &mut [u8],
+    positions: &mut [u32],
+    n: u32,
+    lits: &[u32],
+    ends: &[u32],
+    p: Place,
+) -> usize
+    requires { ⌜ Room (now sheet) p (now out) × (n ≤ 256) × GoodClauses n (now lits) (now ends) × (n ≤ length (now positions)) ⌝ }
+    ensures { λ r. ⌜ Ended (now (sheet .entry)) p (spec.opened vsids n (now (lits .entry)) (now (ends .entry))) (now (out .entry)) r (now (out .exit)) ⌝ }
+{
+    let mut values = [UNASSIGNED; 256];
+    let mut levels = [NONE; 256];
+    let mut reasons = [NONE; 256];
+    let mut trail = [NONE; 256];
+    let mut opened = [NONE; 256];
+    let mut activity = [ZERO_ACTIVITY; 256];
+    let mut heap = [NONE; 256];
+    let mut decision = [true; 256];
+    in_arrays(
+        sheet,
+        out,
+        positions,
+        n,
+        lits,
+        ends,
+        &mut values,
+        &mut levels,
+        &mut reasons,
+        &mut trail,
+        &mut opened,
+        &mut activity,
+        &mut heap,
+        &mut decision,
+        p,
+    )
+}
+
+// The same with at most 1,024.
+fn in_1024(
+    sheet: &[u8],
+    out: &mut [u8],
+    positions: &mut [u32],
+    n: u32,
+    lits: &[u32],
+    ends: &[u32],
+    p: Place,
+) -> usize
+    requires { ⌜ Room (now sheet) p (now out) × (n ≤ 1024) × GoodClauses n (now lits) (now ends) × (n ≤ length (now positions)) ⌝ }
+    ensures { λ r. ⌜ Ended (now (sheet .entry)) p (spec.opened vsids n (now (lits .entry)) (now (ends .entry))) (now (out .entry)) r (now (out .exit)) ⌝ }
+{
+    let mut values = [UNASSIGNED; 1024];
+    let mut levels = [NONE; 1024];
+    let mut reasons = [NONE; 1024];
+    let mut trail = [NONE; 1024];
+    let mut opened = [NONE; 1024];
+    let mut activity = [ZERO_ACTIVITY; 1024];
+    let mut heap = [NONE; 1024];
+    let mut decision = [true; 1024];
+    in_arrays(
+        sheet,
+        out,
+        positions,
+        n,
+        lits,
+        ends,
+        &mut values,
+        &mut levels,
+        &mut reasons,
+        &mut trail,
+        &mut opened,
+        &mut activity,
+        &mut heap,
+        &mut decision,
+        p,
+    )
+}
+
+// The same with any number of variables.
+fn in_all(
+    sheet: &[u8],
+    out: &mut [u8],
+    positions: &mut [u32],
+    n: u32,
+    lits: &[u32],
+    ends: &[u32],
+    p: Place,
+) -> usize
+    requires { ⌜ Room (now sheet) p (now out) × (n ≤ number.maxVars) × GoodClauses n (now lits) (now ends) × (n ≤ length (now positions)) ⌝ }
+    ensures { λ r. ⌜ Ended (now (sheet .entry)) p (spec.opened vsids n (now (lits .entry)) (now (ends .entry))) (now (out .entry)) r (now (out .exit)) ⌝ }
+{
+    let mut values = [UNASSIGNED; MAX_VARS as usize];
+    let mut levels = [NONE; MAX_VARS as usize];
+    let mut reasons = [NONE; MAX_VARS as usize];
+    let mut trail = [NONE; MAX_VARS as usize];
+    let mut opened = [NONE; MAX_VARS as usize];
+    let mut activity = [ZERO_ACTIVITY; MAX_VARS as usize];
+    let mut heap = [NONE; MAX_VARS as usize];
+    let mut decision = [true; MAX_VARS as usize];
+    in_arrays(
+        sheet,
+        out,
+        positions,
+        n,
+        lits,
+        ends,
+        &mut values,
+        &mut levels,
+        &mut reasons,
+        &mut trail,
+        &mut opened,
+        &mut activity,
+        &mut heap,
+        &mut decision,
         p,
     )
 }
@@ -203,14 +298,20 @@ pub fn rest(
     ends: &[u32],
     p: Place,
 ) -> usize
-    requires { ⌜ Room (now sheet) p (now out) × (n ≤ number.maxVars) × GoodClauses n (now lits) (now ends) × (length (now positions) ≡ number.maxVars) ⌝ }
+    requires { ⌜ Room (now sheet) p (now out) × (n ≤ number.maxVars) × GoodClauses n (now lits) (now ends) × (n ≤ length (now positions)) ⌝ }
     ensures { λ r. ⌜ Ended (now (sheet .entry)) p (spec.opened vsids n (now (lits .entry)) (now (ends .entry))) (now (out .entry)) r (now (out .exit)) ⌝ }
 {
     if p.left == 0 {
         return p.at;
     }
-    if n <= FEW {
-        return few(sheet, out, positions, n, lits, ends, p);
+    if n <= 64 {
+        return in_64(sheet, out, positions, n, lits, ends, p);
     }
-    many(sheet, out, positions, n, lits, ends, p)
+    if n <= 256 {
+        return in_256(sheet, out, positions, n, lits, ends, p);
+    }
+    if n <= 1024 {
+        return in_1024(sheet, out, positions, n, lits, ends, p);
+    }
+    in_all(sheet, out, positions, n, lits, ends, p)
 }

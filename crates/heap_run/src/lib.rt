@@ -16,6 +16,8 @@ ghost use Rattle.sheet.specs.Sheet.{called, inHeap};
 ghost use Rattle.sheet.specs.Running.{Room, Ended};
 ghost use Rattle.heap_run.specs.Lines.{HeapAlong};
 use forms::Count;
+use forms::FEW;
+use forms::MANY;
 use forms::Read;
 use heap_calls::HeapAnswer;
 use heap_calls::HeapState;
@@ -46,7 +48,7 @@ fn group_with(line: &[u8], n: u32, s: HeapState, vars: &mut [u32]) -> HeapAnswer
     }
 }
 
-// The same with scratch of its own, less for a short line: each variable takes two bytes at least.
+// The same with scratch of its own, less for a short line.
 fn group_line(line: &[u8], n: u32, s: HeapState) -> HeapAnswer
     ensures { λ r. ⌜ ((m : ℕ) (lits ends values levels reasons trail opened : List ℕ) (a : List Float) (h p : List ℕ) (d : List Bool) → Answered (called n m (heapOps n lits ends) (sessionOf n m lits ends values levels reasons trail opened a h p d s) (groupOn (now (line .entry))))
         (sessionOf n m lits ends values levels reasons trail opened a h p d s)
@@ -54,11 +56,11 @@ fn group_line(line: &[u8], n: u32, s: HeapState) -> HeapAnswer
         (r .reply)
         (sessionOf n m lits ends values levels reasons trail opened a h p d (r .state))) ⌝ }
 {
-    if line.len() <= 128 {
-        let mut few = [NONE; 64];
+    if line.len() <= 2 * FEW {
+        let mut few = [NONE; FEW];
         return group_with(line, n, s, &mut few);
     }
-    let mut vars = [NONE; 2048];
+    let mut vars = [NONE; MANY];
     group_with(line, n, s, &mut vars)
 }
 

@@ -16,7 +16,10 @@ ghost use Rattle.sheet.specs.Sheet.{called, inList};
 ghost use Rattle.sheet.specs.Running.{Room, Ended};
 ghost use Rattle.list_run.specs.Lines.{ListAlong};
 use forms::Count;
+use forms::FEW;
+use forms::MANY;
 use forms::Read;
+use forms::SOME;
 use list_mode::ListAnswer;
 use list_mode::ListState;
 use lit::BAD_LINE;
@@ -67,9 +70,6 @@ fn group_with(
     )
 }
 
-// So many variables are few: a line of at most twice as many bytes has no more, and short scratch is set up sooner.
-const FEW: usize = 64;
-
 // The same with scratch of its own, as long as the line may need.
 fn group_line(
     line: &[u8],
@@ -90,34 +90,20 @@ fn group_line(
 {
     if line.len() <= 2 * FEW {
         let mut vars = [NONE; FEW];
-        let mut stamps = [0u64; FEW];
+        let mut keys = [0u64; FEW];
         let mut order = [NONE; FEW];
-        return group_with(
-            line,
-            n,
-            next,
-            prev,
-            ts,
-            s,
-            &mut vars,
-            &mut stamps,
-            &mut order,
-        );
+        return group_with(line, n, next, prev, ts, s, &mut vars, &mut keys, &mut order);
     }
-    let mut vars = [NONE; 2048];
-    let mut stamps = [0u64; 2048];
-    let mut order = [NONE; 2048];
-    group_with(
-        line,
-        n,
-        next,
-        prev,
-        ts,
-        s,
-        &mut vars,
-        &mut stamps,
-        &mut order,
-    )
+    if line.len() <= 2 * SOME {
+        let mut vars = [NONE; SOME];
+        let mut keys = [0u64; SOME];
+        let mut order = [NONE; SOME];
+        return group_with(line, n, next, prev, ts, s, &mut vars, &mut keys, &mut order);
+    }
+    let mut vars = [NONE; MANY];
+    let mut keys = [0u64; MANY];
+    let mut order = [NONE; MANY];
+    group_with(line, n, next, prev, ts, s, &mut vars, &mut keys, &mut order)
 }
 
 // A line on a good session: the call that it is, or refusal 3.

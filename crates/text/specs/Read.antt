@@ -3,12 +3,18 @@ use Prim.Native.Nat.{ℕ}
 use mathlib.Core.Option.{Option, none, some}
 use Rattle.text.specs.declared.Whole as whole
 use Rattle.text.specs.declared.Whole.the-variants as a-whole
+use Rattle.text.specs.declared.Field as field
+use Rattle.text.specs.declared.Field.the-variants as a-field
 use Rattle.text.specs.declared.Bits as bits
 use Rattle.text.specs.declared.Bits.the-variants as a-pattern
 
 abbrev pub wholeOf : Option ℕ → whole.Whole
 wholeOf none = a-whole.Bad
 wholeOf (some n) = a-whole.Is n
+
+abbrev pub fieldOf : ℕ → Option ℕ → field.Field
+fieldOf end none = a-field.Bad
+fieldOf end (some n) = a-field.Is n end
 
 abbrev pub bitsOf : Option ℕ → bits.Bits
 bitsOf none = a-pattern.Bad

@@ -1,9 +1,11 @@
 -- Reading bytes from the front: what is left after i bytes still decides. The laws that the loops cite. Assumes nothing.
-use Prim.Native.Nat.{ℕ, suc, _+_, _*_, _-_, _%_, _^_, _≤_, _<_}
+use Prim.Native.Nat.{ℕ, zero, suc, _+_, _*_, _-_, _%_, _^_, _≤_, _<_}
 use mathlib.Core.Path.{_≡_, refl, sym, _∙_}
+use mathlib.Core.Logic.{by-cases}
 use mathlib.Core.Bool.{true, false, cond, not, _&&_, false≢true}
 use mathlib.Core.Option.{Option, none, some}
 use mathlib.Core.List.{List, [], _∷_}
+use native.Mathlib.Decide.{ℕ-discrete}
 use native.Mathlib.Omega.{arith}
 use native.Mathlib.Numerals.{add-one}
 use native.Mathlib.Nat.{pow-suc, pow-le-pow-right}
@@ -11,8 +13,8 @@ use borrow.Author.Tests.{eq-eqb, ne-eqb, le-leb, lt-leb, leb-true, lt-ltb, le-lt
 use lib.Dec.{leb, T}
 use lib.Ieee.{Float, nan, inf, fin, binary64, ofBits, div, isNan, nanBits}
 use lib.Ieee.Bits.{nanBits-is, nanBits-above}
-use lib.ListN.{length, getD, drop, drop-of-length-le}
-use lib.Seq.{drop-cons}
+use lib.ListN.{length, getD, take, drop, drop-of-length-le}
+use lib.Seq.{drop-cons, drop-drop}
 use Rattle.laws.specs.Tests.{and-true, and-false, and-left, and-right, not-true, not-false}
 use Rattle.laws.specs.Choices.{or-cases}
 use Rattle.lit.specs.Numbers.{NONE}
@@ -49,6 +51,24 @@ module _ (b : ℕ) (l : List ℕ) (i : ℕ) where
   pub occurs-end : length l ≤ i → occurs b (drop i l) ≡ 0
   unfolding occurs
   occurs-end h = rw (drop-of-length-le l h)
+
+-- so many bytes are counted at a time
+abbrev pub block : ℕ
+block = 240
+
+-- the bytes before place n, and those behind
+pub occurs-parts : (b n : ℕ) (l : List ℕ) → occurs b l ≡ occurs b (take n l) + occurs b (drop n l)
+unfolding occurs
+occurs-parts b zero l = omega arith
+occurs-parts b (suc n) [] = omega arith
+occurs-parts b (suc n) (c ∷ l) = by-cases (ℕ-discrete c b) (λ e. rw (eq-eqb c b e) (omega (arith, occurs-parts b n l))) (λ d. rw (ne-eqb c b d) (occurs-parts b n l))
+
+-- .. counted from place i, up to place j and from there
+pub occurs-between : (b : ℕ) (l : List ℕ) (i j : ℕ) → i ≤ j → occurs b (drop i l) ≡ occurs b (take (j - i) (drop i l)) + occurs b (drop j l)
+occurs-between b l i j h =
+    let e : i + (j - i) ≡ j = omega arith in
+    let d : drop (j - i) (drop i l) ≡ drop j l = rw e at (drop-drop (j - i) i l) in
+    rw (sym d) (occurs-parts b (j - i) (drop i l))
 
 -- the number that the digits left give behind v
 unfoldable pub numberFrom : ℕ → List ℕ → Option ℕ
@@ -104,6 +124,21 @@ unfolding number plain
 number-zero [] e h = absurd (omega arith)
 number-zero (b ∷ []) e h = absurd (omega arith)
 number-zero (b ∷ (c ∷ bs)) e h = rw (eq-eqb b 48 e, and-false (isDigit b))
+
+-- no digits that give a number, so none at all
+pub digits-none : (bs : List ℕ) → numberFrom 0 bs ≡ none → number bs ≡ none
+digits-none [] e = number-empty [] refl
+digits-none (b ∷ []) e = number-starts (b ∷ []) (omega arith) (λ z l. omega arith) ∙ e
+digits-none (b ∷ (c ∷ bs)) e = by-cases (ℕ-discrete b 48) (λ z. number-zero (b ∷ (c ∷ bs)) z (omega arith)) (λ z. number-starts (b ∷ (c ∷ bs)) (omega arith) (λ w l. z w) ∙ e)
+
+-- the field from the front up to the first such byte
+abbrev pub upTo : ℕ → List ℕ → List ℕ
+upTo b l = take (find b l) l
+
+module _ (b : ℕ) (l : List ℕ) (i : ℕ) where
+  pub field-next : i < length l → (getD l i 0 ≡ b → ⊥) → upTo b (drop i l) ≡ getD l i 0 ∷ upTo b (drop (i + 1) l)
+  unfolding find
+  field-next h n = rw (next-byte l i h, ne-eqb (getD l i 0) b n)
 
 -- the value of a byte as a hexadecimal digit, and 16 where it is none
 abbrev pub hexValue : ℕ → ℕ

@@ -3,9 +3,10 @@ ghost use mathlib.Core.Path.{_≡_};
 ghost use mathlib.Core.Bool.{cond};
 ghost use Prim.Native.Nat.{_+_, _≤_};
 ghost use lib.Ieee.{binary64, ofBits};
-ghost use lib.ListN.{length};
+ghost use lib.ListN.{length, take, drop};
 ghost use Rattle.text.specs.Text as spec;
-ghost use Rattle.text.specs.Read.{wholeOf, bitsOf};
+ghost use Rattle.text.specs.Read.{wholeOf, fieldOf, bitsOf};
+ghost use Rattle.text.specs.Reading.{block};
 use lit::NONE;
 
 pub const TAB: u8 = 9;
@@ -15,6 +16,12 @@ pub const NEWLINE: u8 = 10;
 // A whole number, or none where the bytes do not have its form.
 pub enum Whole {
     Is(u32),
+    Bad,
+}
+
+// The whole number that a field is and the place behind the field, or none where the bytes do not have a number's form.
+pub enum Field {
+    Is(u32, usize),
     Bad,
 }
 
@@ -35,8 +42,12 @@ pub fn find(bytes: &[u8], b: u8) -> usize
     i
 }
 
-// How often a byte stands in the bytes.
-pub fn occurs(bytes: &[u8], b: u8) -> usize
+// So many bytes are counted at a time: a count below 256 is kept in a byte, which is faster.
+const BLOCK: usize = 240;
+
+// How often a byte stands in at most so many bytes.
+fn occurs_in_block(bytes: &[u8], b: u8) -> u8
+    requires { ⌜ length (now bytes) ≤ block ⌝ }
     ensures { λ r. ⌜ r ≡ spec.occurs b (now (bytes .entry)) ⌝ }
 {
     let mut count = 0;
@@ -48,6 +59,19 @@ pub fn occurs(bytes: &[u8], b: u8) -> usize
         i += 1;
     }
     count
+}
+
+// How often a byte stands in the bytes.
+pub fn occurs(bytes: &[u8], b: u8) -> usize
+    ensures { λ r. ⌜ r ≡ spec.occurs b (now (bytes .entry)) ⌝ }
+{
+    let mut count = 0;
+    let mut i = 0;
+    while bytes.len() - i > BLOCK {
+        count += occurs_in_block(&bytes[i..i + BLOCK], b) as usize;
+        i += BLOCK;
+    }
+    count + occurs_in_block(&bytes[i..], b) as usize
 }
 
 // A whole number in decimal: no leading zero, at most 4294967295.
@@ -74,6 +98,33 @@ pub fn number(field: &[u8]) -> Whole
         i += 1;
     }
     Whole::Is(v as u32)
+}
+
+// The whole number, read as `number` reads it, of the field from a place up to the next tab or the end.
+pub fn number_at(bytes: &[u8], at: usize) -> Field
+    requires { ⌜ at ≤ length (now bytes) ⌝ }
+    ensures { λ r. ⌜ r ≡ fieldOf (at + spec.find spec.tab (drop at (now (bytes .entry)))) (spec.number (take (spec.find spec.tab (drop at (now (bytes .entry)))) (drop at (now (bytes .entry))))) ⌝ }
+{
+    let mut value: u64 = 0;
+    let mut i = at;
+    while i < bytes.len() && bytes[i] != TAB {
+        let b = bytes[i];
+        if b < 48 || b > 57 {
+            return Field::Bad;
+        }
+        value = value * 10 + (b - 48) as u64;
+        if value > NONE as u64 {
+            return Field::Bad;
+        }
+        i += 1;
+    }
+    if i == at {
+        return Field::Bad;
+    }
+    if bytes[at] == 48 && i - at > 1 {
+        return Field::Bad;
+    }
+    Field::Is(value as u32, i)
 }
 
 // The value of a lower-case hexadecimal digit, or 16 where the byte is none.

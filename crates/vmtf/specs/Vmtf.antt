@@ -237,12 +237,6 @@ pub record Literals (n : ℕ) (codes : List ℕ) : Type 0 where
   pub few : length codes ≤ NONE
   pub vars : (i : ℕ) → i < length codes → index (getD codes i 0) < n
 
--- What the order of n variables needs: scratch of this length.
-pub record Scratch (n : ℕ) (indexes tree : List ℕ) : Type 0 where
-  pub small : n ≤ NONE
-  pub indexes-long : length indexes ≡ n
-  pub tree-long : length tree ≡ n
-
 -- What a fresh list of n variables needs: slices of this length.
 pub record Fresh (n : ℕ) (prev ts counts indexes : List ℕ) : Type 0 where
   pub small : n ≤ NONE

@@ -73,7 +73,7 @@ pub fn new(
     ensures { λ r. ⌜ vmtfOf (now (next .exit)) (now (prev .exit)) (now (ts .exit)) r ≡ spec.new (length (now (next .entry))) (now (codes .entry)) ⌝ }
     ensures { λ _. ⌜ (now (counts .exit) ≡ replicate (length (now (next .entry))) 0) × (now (indexes .exit) ≡ replicate (length (now (next .entry))) 0) ⌝ }
 {
-    lit_order(codes, counts, indexes, ts);
+    lit_order(codes, counts, indexes);
     let s = make_linked_list(indexes, next, prev, ts);
     fill(counts, 0);
     fill(indexes, 0);

@@ -5,7 +5,7 @@ ghost use lib.ListN.{length, replicate};
 ghost use Rattle.laws.specs.InPlace.{upTo};
 ghost use Rattle.lit.specs.Numbers.{NONE as none};
 ghost use Rattle.vmtf.specs.Vmtf as spec;
-ghost use Rattle.vmtf.specs.Vmtf.{Literals, Scratch};
+ghost use Rattle.vmtf.specs.Vmtf.{Literals};
 use lit::index;
 use util::sort_reverse;
 use vmtf::fill;
@@ -36,14 +36,14 @@ fn count_lits(codes: &[u32], counts: &mut [u32])
     }
 }
 
-// The variables in the most literals first. The counts and the tree are scratch.
-pub(crate) fn lit_order(codes: &[u32], counts: &mut [u32], indexes: &mut [u32], tree: &mut [u64])
+// The variables in the most literals first. The counts are scratch.
+pub(crate) fn lit_order(codes: &[u32], counts: &mut [u32], indexes: &mut [u32])
     requires { ⌜ Literals (length (now counts)) (now codes) ⌝ }
-    requires { ⌜ Scratch (length (now counts)) (now indexes) (now tree) ⌝ }
+    requires { ⌜ (length (now counts) ≤ none) × (length (now indexes) ≡ length (now counts)) ⌝ }
     ensures { λ _. ⌜ now (indexes .exit) ≡ spec.litOrder (length (now (counts .entry))) (now (codes .entry)) ⌝ }
 {
     fill(counts, 0);
     count_lits(codes, counts);
     number(indexes);
-    sort_reverse(counts, indexes, tree);
+    sort_reverse(counts, indexes);
 }

@@ -18,10 +18,10 @@ answer-requires : tie.Need-answer-requires
 answer-requires c κs = let s = c .before .before .before .before .before .before .before .before .before in first-fits (s .pre .0) (s .pre .1) 3 (omega arith)
 
 open-requires : tie.Need-open-requires
-open-requires c κs = let s = c .before .before .before .before .before .before .before .before .before .before .before in (s .pre .0, s .pre .1, c .before .before .before .before .before .before .before .find .ensures, s .pre .2)
+open-requires c κs = let s = c .before .before .before .before .before .before .before .before .before .before .before in (s .pre .0, s .pre .1, c .before .before .before .before .before .before .before .find .ensures)
 
 open-requires-2 : tie.Need-open-requires-2
-open-requires-2 c κs = let s = c .before .before .before .before .before .before .before .before .before .before .before in (s .pre .0, s .pre .1, c .before .before .before .before .before .before .before .find .ensures, s .pre .2)
+open-requires-2 c κs = let s = c .before .before .before .before .before .before .before .before .before .before .before in (s .pre .0, s .pre .1, c .before .before .before .before .before .before .before .find .ensures)
 
 returns : tie.Need-returns
 returns c =

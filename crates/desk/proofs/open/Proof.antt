@@ -28,17 +28,17 @@ behind-requires c κs =
     let s = c .before .before .before .before .before .before .before .before in
     (s .pre .1, omega arith, omega (arith, s .pre .2, s .pre .0 .short, line-inside (s .pre .0) (s .pre .1)))
 
-lines-behind-requires : tie.Need-lines-behind-requires
-lines-behind-requires c κs =
+with-positions-requires : tie.Need-with-positions-requires
+with-positions-requires c κs =
     let s = c .before .before .before .before .before .before .before .before .before .before .before in
     let few : s .args .n ≤ maxVars = search needs in
-    rw (c .before .before .behind .ensures) (first-room (s .pre .0) (s .pre .1) (s .pre .2) (c .before .before .before .before .before .answer2 .ensures), few, s .pre .3)
+    rw (c .before .before .behind .ensures) (first-room (s .pre .0) (s .pre .1) (s .pre .2) (c .before .before .before .before .before .answer2 .ensures), few)
 
 returns-2 : tie.Need-returns-2
 returns-2 c =
     let s = c .before .before .before .before .before .before .before .before .before .before .before .before .before .before .before .before in
     let few : s .args .n ≤ maxVars = search needs in
-    let e = c .before .before .before .before .lines-behind .ensures in
+    let e = c .before .before .before .before .with-positions .ensures in
     first-opened (s .args .heap) (s .args .n) few (s .args .sheet .now) (s .args .count) (s .args .end) (c .before .before .before .before .before .before .before .before .before .before .answer2 .ensures) (rw (c .before .before .before .before .before .before .before .behind .ensures) at e)
 
 pub open-spec : {M : Type 1} → statement M
@@ -50,7 +50,7 @@ open-spec =
     returns
     answer-requires-2
     behind-requires
-    lines-behind-requires
-    (λ c. c .before .before .before .before .lines-behind .kept .1 .0 ∙ c .before .before .before .before .before .before .before .before .before .before .answer2 .kept .0)
-    (λ c. c .before .before .before .before .lines-behind .kept .1 .1 .0)
+    with-positions-requires
+    (λ c. c .before .before .before .before .with-positions .kept .1 .0 ∙ c .before .before .before .before .before .before .before .before .before .before .answer2 .kept .0)
+    (λ c. c .before .before .before .before .with-positions .kept .1 .1 .0)
     returns-2)

@@ -31,7 +31,7 @@ answer-all-requires : tie.Need-answer-all-requires
 answer-all-requires c κs =
     let s = c .before .before .before .before .before .before .before .before .before in
     let count = c .before .before .before .before .occurs .ensures in
-    rw count (start-room (s .args .sheet .now) (s .args .out .now) (c .before .before .before .before .before .if1 .left) (rw count at (c .before .before .before .if2 .left)), omega (arith, count, c .before .before .if3 .left), s .pre)
+    rw count (start-room (s .args .sheet .now) (s .args .out .now) (c .before .before .before .before .before .if1 .left) (rw count at (c .before .before .before .if2 .left)), omega (arith, count, c .before .before .if3 .left))
 
 cast-result : tie.Need-cast-result
 cast-result c = omega (arith, c .before .before .before .before .answer-all .ensures .place, few-bytes (c .before .before .before .before .before .before .before .before .before .before .before .before .before .before .args .sheet .now) (c .before .before .before .before .before .before .before .before .before .before .if1 .left))

@@ -15,6 +15,7 @@ group-line-spec =
     tie.close
     (tie.spec
     (λ c. search needs)
+    (λ c. search needs)
     group-with-requires
     (λ c. c .before .group-with .ensures)
     (λ c. search needs)

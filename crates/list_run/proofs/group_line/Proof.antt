@@ -1,4 +1,4 @@
--- `list_run::group_line` meets its contract: a short line has few variables, and no group has more than 2,048.
+-- `list_run::group_line` meets its contract: a line has at most half as many variables as bytes, and no group has more than 2,048.
 use Prim.Native.Nat.{ℕ, _*_, _≤_}
 use mathlib.Core.Path.{refl}
 use mathlib.Core.List.{List}
@@ -20,7 +20,10 @@ group-with-requires : tie.Need-group-with-requires
 group-with-requires c κs = (c .before .before .before .before .before .before .before .before .before .before .before .pre, (short-fits (c .before .before .before .before .before .before .if1 .taken), refl, refl))
 
 group-with-requires-2 : tie.Need-group-with-requires-2
-group-with-requires-2 c κs = (c .before .before .before .before .before .before .before .before .before .before .before .pre, (any-fits (omega arith), refl, refl))
+group-with-requires-2 c κs = (c .before .before .before .before .before .before .before .before .before .before .before .before .pre, (short-fits (c .before .before .before .before .before .before .if2 .taken), refl, refl))
+
+group-with-requires-3 : tie.Need-group-with-requires-3
+group-with-requires-3 c κs = (c .before .before .before .before .before .before .before .before .before .before .before .before .pre, (any-fits (omega arith), refl, refl))
 
 pub group-line-spec : {M : Type 1} → statement M
 group-line-spec =
@@ -38,7 +41,16 @@ group-line-spec =
     (λ c. search needs)
     (λ c. search needs)
     (λ c. search needs)
+    (λ c. search needs)
     group-with-requires-2
+    (λ c. search needs)
+    (λ c. search needs)
+    (λ c. search needs)
+    (λ c. search needs)
+    (λ c. search needs)
+    (λ c. search needs)
+    (λ c. search needs)
+    group-with-requires-3
     (λ c. search needs)
     (λ c. search needs)
     (λ c. search needs)

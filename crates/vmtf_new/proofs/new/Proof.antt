@@ -1,5 +1,5 @@
 use Prim.Native.Nat.{ℕ}
-use mathlib.Core.Path.{_≡_, ap, _∙_}
+use mathlib.Core.Path.{_≡_, sym, ap, _∙_}
 use mathlib.Core.List.{List}
 use lib.ListN.{length, replicate}
 use Rattle.vmtf.specs.Vmtf.{litOrder, makeLinkedList, new}
@@ -9,7 +9,7 @@ use Rattle.vmtf_new.proofs.new.Statement.{statement}
 use Rattle.vmtf_new.proofs.new.Tie as tie
 
 lit-order-requires : tie.Need-lit-order-requires
-lit-order-requires c κs = let s = c .before .before .before .before .before .before .before .before .before .pre in (rw (s .1 .counts-long) (s .0), rw (s .1 .counts-long) (record { small = s .1 .small; indexes-long = s .1 .indexes-long; tree-long = s .1 .ts-long }))
+lit-order-requires c κs = let s = c .before .before .before .before .before .before .before .before .pre in (rw (s .1 .counts-long) (s .0), (rw (s .1 .counts-long) (s .1 .small), s .1 .indexes-long ∙ sym (s .1 .counts-long)))
 
 -- the counts are as many as the variables
 order-is : (s : tie.Start) (order : List ℕ) → order ≡ litOrder (length (s .args .counts .now)) (s .args .codes .now)
@@ -18,15 +18,15 @@ order-is s order e = e ∙ ap (λ (k : ℕ). litOrder k (s .args .codes .now)) (
 
 make-linked-list-requires : tie.Need-make-linked-list-requires
 make-linked-list-requires c κs =
-    let s = c .before .before .before .before .before .before .before .before .before .before .before .before .before .before .before .before .before .before .before .before in
-    let o = c .before .before .before .before .before .before .before .before .before .before .lit-order in
-    (rw (order-is s _ (o .ensures)) (lit-ordering _ _), (s .pre .1 .prev-long, o .kept .1 .1 .1 .0 ∙ s .pre .1 .ts-long))
+    let s = c .before .before .before .before .before .before .before .before .before .before .before .before .before .before .before .before .before in
+    let o = c .before .before .before .before .before .before .before .before .lit-order in
+    (rw (order-is s _ (o .ensures)) (lit-ordering _ _), (s .pre .1 .prev-long, s .pre .1 .ts-long))
 
 returns : tie.Need-returns
 unfolding new
 returns c =
-    let s = c .before .before .before .before .before .before .before .before .before .before .before .before .before .before .before .before .before .before .before .before .before .before .before .before .before .before .before .before .before .before .before .before .before .before .before in
-    let o = c .before .before .before .before .before .before .before .before .before .before .before .before .before .before .before .before .before .before .before .before .before .before .before .before .before .lit-order in (
+    let s = c .before .before .before .before .before .before .before .before .before .before .before .before .before .before .before .before .before .before .before .before .before .before .before .before .before .before .before .before .before .before .before .before in
+    let o = c .before .before .before .before .before .before .before .before .before .before .before .before .before .before .before .before .before .before .before .before .before .before .before .lit-order in (
       c .before .before .before .before .before .before .before .before .before .before .before .before .before .before .make-linked-list .ensures ∙ ap makeLinkedList (order-is s _ (o .ensures)),
       (
         c .before .before .before .before .before .before .fill .ensures ∙ ap (λ k. replicate k 0) (o .kept .1 .0 ∙ s .pre .1 .counts-long),

@@ -10,14 +10,14 @@ use Rattle.vmtf_new.proofs.order.lit_order.Statement.{statement}
 use Rattle.vmtf_new.proofs.order.lit_order.Tie as tie
 
 count-lits-requires : tie.Need-count-lits-requires
-count-lits-requires c κs = let f = c .before .before .before .fill .kept .0 in (rw f (c .before .before .before .before .before .before .before .before .before .pre .0), c .before .before .before .fill .ensures ∙ ap (λ k. replicate k 0) (sym f))
+count-lits-requires c κs = let f = c .before .before .before .fill .kept .0 in (rw f (c .before .before .before .before .before .before .before .before .pre .0), c .before .before .before .fill .ensures ∙ ap (λ k. replicate k 0) (sym f))
 
 returns : tie.Need-returns
 returns c =
-    let s = c .before .before .before .before .before .before .before .before .before .before .before .before .before .before .before .before .before .before .before .before .before .before .before .before .before .before in
-    let counted = c .before .before .before .before .before .before .before .before .before .before .before .before .before .before .before .before .count-lits .ensures ∙ ap (λ (l : List ℕ). countLits l (s .args .codes .now)) (c .before .before .before .before .before .before .before .before .before .before .before .before .before .before .before .before .before .before .before .before .fill .ensures) in
-    let numbered = c .before .before .before .before .before .before .before .before .before .before .before .before .number .ensures ∙ ap upTo (s .pre .1 .indexes-long) in
-    order-from _ _ _ _ _ _ counted numbered (c .before .before .before .before .before .before .sort-reverse .ensures .0)
+    let s = c .before .before .before .before .before .before .before .before .before .before .before .before .before .before .before .before .before .before .before .before .before .before in
+    let counted = c .before .before .before .before .before .before .before .before .before .before .before .before .before .count-lits .ensures ∙ ap (λ (l : List ℕ). countLits l (s .args .codes .now)) (c .before .before .before .before .before .before .before .before .before .before .before .before .before .before .before .before .before .fill .ensures) in
+    let numbered = c .before .before .before .before .before .before .before .before .before .number .ensures ∙ ap upTo (s .pre .1 .1) in
+    order-from _ _ _ _ _ _ counted numbered (c .before .before .before .before .sort-reverse .ensures)
 
 pub lit-order-spec : {M : Type 1} → statement M
 lit-order-spec =
@@ -27,7 +27,6 @@ lit-order-spec =
     count-lits-requires
     (λ c κs. search needs)
     (λ c κs. search needs)
-    (λ c. search needs)
     (λ c. search needs)
     (λ c. search needs)
     returns)

@@ -1,0 +1,27 @@
+-- `desk_lines::lines_behind` meets its contract: where no clause line comes next, the session's lines are all.
+use mathlib.Core.Path.{refl, sym, _∙_}
+use Rattle.desk_lines.specs.Behind.{modeOf, session-ended}
+use borrow.Author.Needs.{needs}
+use Rattle.desk_lines.proofs.lines_behind.Statement.{statement}
+use Rattle.desk_lines.proofs.lines_behind.Tie as tie
+
+returns-2 : tie.Need-returns-2
+returns-2 c =
+    let s = c .before .before .before .before .before .before .before .before .before .before .before .before .before .before in
+    session-ended (modeOf (s .args .heap)) (sym (c .before .before .before .before .before .before .before .before .before .before .next-is-clause .ensures) ∙ c .before .before .before .before .before .before .before .before .before .if1 .left) (c .before .before .before .before .session-lines .ensures)
+
+pub lines-behind-spec : {M : Type 1} → statement M
+lines-behind-spec =
+    tie.close
+    (tie.spec
+    (λ c κs. (c .before .before .before .args .out .now, c .before .before .before .pre .0))
+    (λ c κs. c .before .before .before .before .before .before .before .pre)
+    (λ c. c .before .before .before .before .clause-lines-first .kept .1 .0)
+    (λ c. c .before .before .before .before .clause-lines-first .kept .1 .1 .0)
+    (λ c. c .before .before .before .before .clause-lines-first .ensures)
+    (λ c. refl)
+    (λ c. refl)
+    (λ c κs. search needs)
+    (λ c. c .before .before .before .before .session-lines .kept .1 .0)
+    (λ c. c .before .before .before .before .session-lines .kept .1 .1 .0)
+    returns-2)

@@ -1,0 +1,2 @@
+-- The lines behind the first.
+pub mod Behind

@@ -1,0 +1,72 @@
+// The entry point of a session's calls in list mode, with the list as a lent slice of nodes. It checks the memory that was lent, and asks nothing of its callers.
+ghost use mathlib.Core.Path.{_≡_};
+ghost use Rattle.nodes.specs.Nodes.{nexts, prevs, tss};
+ghost use Rattle.entry.specs.Asked.{asks};
+ghost use Rattle.calls.specs.Entry.{Answered};
+ghost use Rattle.list_mode.specs.Memory.{sessionOf, cleared, clears};
+ghost use Rattle.list_entry.specs.Entry.{entered};
+use calls::Call;
+use list_mode::ListAnswer;
+use list_mode::ListState;
+use nodes::Node;
+use nodes::ROOM;
+use nodes::gather;
+use nodes::room_for;
+use nodes::scatter;
+
+// A call on a session that was lent. The stamps and the order are a group's scratch.
+pub fn enter(
+    n: u32,
+    literals: u32,
+    clauses: u32,
+    lits: &[u32],
+    ends: &[u32],
+    values: &mut [u8],
+    levels: &mut [u32],
+    reasons: &mut [u32],
+    trail: &mut [u32],
+    opened: &mut [u32],
+    nodes: &mut [Node],
+    s: ListState,
+    call: Call,
+    vars: &[u32],
+    stamps: &mut [u64],
+    order: &mut [u32],
+) -> ListAnswer
+    ensures { λ r. ⌜ Answered
+        (entered n clauses (now (lits .entry)) literals (now (ends .entry)) (asks call (now (vars .entry)) (now (stamps .entry)) (now (order .entry)))
+        (sessionOf n clauses (now (lits .entry)) (now (values .entry)) (now (levels .entry)) (now (reasons .entry)) (now (trail .entry)) (now (opened .entry)) (nexts (now (nodes .entry))) (prevs (now (nodes .entry))) (tss (now (nodes .entry))) s))
+        (sessionOf n clauses (now (lits .entry)) (now (values .entry)) (now (levels .entry)) (now (reasons .entry)) (now (trail .entry)) (now (opened .entry)) (nexts (now (nodes .entry))) (prevs (now (nodes .entry))) (tss (now (nodes .entry))) s)
+        (r .status)
+        (r .reply)
+        (sessionOf n clauses (now (lits .entry)) (now (values .exit)) (now (levels .exit)) (now (reasons .exit)) (now (trail .exit)) (now (opened .exit)) (nexts (now (nodes .exit))) (prevs (now (nodes .exit))) (tss (now (nodes .exit))) (r .state)) ⌝ }
+    ensures { λ r. ⌜ (now (stamps .exit) ≡ cleared (clears call (r .status)) (now (stamps .entry))) × (now (order .exit) ≡ cleared (clears call (r .status)) (now (order .entry))) ⌝ }
+{
+    let k = room_for(nodes.len());
+    let mut next = [0u32; ROOM];
+    let mut prev = [0u32; ROOM];
+    let mut ts = [0u64; ROOM];
+    gather(nodes, &mut next[..k], &mut prev[..k], &mut ts[..k]);
+    let r = list_entry::enter(
+        n,
+        literals,
+        clauses,
+        lits,
+        ends,
+        values,
+        levels,
+        reasons,
+        trail,
+        opened,
+        &mut next[..k],
+        &mut prev[..k],
+        &mut ts[..k],
+        s,
+        call,
+        vars,
+        stamps,
+        order,
+    );
+    scatter(nodes, &next[..k], &prev[..k], &ts[..k]);
+    r
+}

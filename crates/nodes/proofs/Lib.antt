@@ -1,0 +1,10 @@
+pub mod Filled
+pub mod Gathering
+pub mod Lending
+pub mod LocalArray
+pub mod Locals
+pub mod Packing
+pub mod Reborrow
+pub mod Rooms
+pub mod Scattering
+pub mod Sizing
