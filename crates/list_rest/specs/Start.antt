@@ -1,11 +1,11 @@
 -- A session made fresh at the end of the clause lines, as code holds it: it is good, it passes its check, and it is the stage that the next line meets. Assumes nothing.
 use Prim.Native.Nat.{ℕ, _≤_}
-use mathlib.Core.Path.{_≡_, refl, subst}
+use mathlib.Core.Path.{_≡_, refl, sym, ap, _∙_}
 use mathlib.Core.Bool.{true}
-use mathlib.Core.List.{List}
+use mathlib.Core.List.{List, _++_}
 use native.Mathlib.Omega.{arith}
-use lib.ListN.{length}
-use Rattle.lit.specs.Numbers.{maxVars}
+use lib.ListN.{length, take, drop, replicate, length-append, length-replicate, take-append-drop}
+use Rattle.lit.specs.Numbers.{NONE, unassigned, maxVars}
 use Rattle.formula.specs.Good.{GoodClauses}
 use Rattle.trail.specs.Trail.{Trail, freshTrail}
 use Rattle.vmtf.specs.Vmtf.{Vmtf, Literals, new}
@@ -18,6 +18,33 @@ use Rattle.forms.specs.Forms.{vmtf}
 use Rattle.sheet.specs.declared.Place.{Place}
 use Rattle.sheet.specs.Sheet.{inList, opened}
 use Rattle.sheet.specs.Running.{Ended}
+
+-- arrays with room for n variables
+pub record RoomIn (n : ℕ) (values levels reasons trail opened next prev ts : List ℕ) : Type 0 where
+  pub values-room : n ≤ length values
+  pub levels-room : n ≤ length levels
+  pub reasons-room : n ≤ length reasons
+  pub trail-room : n ≤ length trail
+  pub opened-room : n ≤ length opened
+  pub next-room : n ≤ length next
+  pub prev-room : n ≤ length prev
+  pub ts-room : n ≤ length ts
+
+pub room-in : {n : ℕ} (m : ℕ) → n ≤ m → RoomIn n (replicate m unassigned) (replicate m NONE) (replicate m NONE) (replicate m NONE) (replicate m NONE) (replicate m NONE) (replicate m NONE) (replicate m 0)
+room-in m l = record {
+  values-room = rw (length-replicate m unassigned) l;
+  levels-room = rw (length-replicate m NONE) l;
+  reasons-room = rw (length-replicate m NONE) l;
+  trail-room = rw (length-replicate m NONE) l;
+  opened-room = rw (length-replicate m NONE) l;
+  next-room = rw (length-replicate m NONE) l;
+  prev-room = rw (length-replicate m NONE) l;
+  ts-room = rw (length-replicate {A = ℕ} m 0) l;
+}
+
+-- a list whose part was exchanged for another of its length
+pub rejoined : {A : Type 0} (n : ℕ) (l m : List A) → length m ≡ length (take n l) → length (m ++ drop n l) ≡ length l
+rejoined n l m e = length-append m (drop n l) ∙ rw e (sym (length-append (take n l) (drop n l)) ∙ ap length (take-append-drop n l))
 
 -- the literals of a good clause list are what creation needs
 pub clause-literals : {n : ℕ} {lits ends : List ℕ} → GoodClauses n lits ends → Literals n lits

@@ -12,8 +12,10 @@ ghost use Rattle.vmtf.specs.Vmtf as vmtf-spec;
 ghost use Rattle.forms.specs.Forms.{vmtf};
 ghost use Rattle.sheet.specs.Sheet as spec;
 ghost use Rattle.sheet.specs.Running.{Room, Ended};
+ghost use Rattle.list_rest.specs.Start.{RoomIn};
 use list_mode::ListState;
 use list_run::ListPlace;
+use lit::MAX_VARS;
 use lit::NONE;
 use lit::UNASSIGNED;
 use sheet::Place;
@@ -120,23 +122,28 @@ fn list_session(
     )
 }
 
-// At most so many variables are few: their session is made in short arrays, since setting up long ones costs more than a short run.
-const FEW: u32 = 256;
-
-// The rest with few variables.
-fn few(sheet: &[u8], out: &mut [u8], n: u32, lits: &[u32], ends: &[u32], p: Place) -> usize
-    requires { ⌜ Room (now sheet) p (now out) × (n ≤ 256) × GoodClauses n (now lits) (now ends) ⌝ }
+// The same in arrays that have room for n variables.
+fn in_arrays(
+    sheet: &[u8],
+    out: &mut [u8],
+    n: u32,
+    lits: &[u32],
+    ends: &[u32],
+    values: &mut [u8],
+    levels: &mut [u32],
+    reasons: &mut [u32],
+    trail: &mut [u32],
+    opened: &mut [u32],
+    next: &mut [u32],
+    prev: &mut [u32],
+    ts: &mut [u64],
+    p: Place,
+) -> usize
+    requires { ⌜ Room (now sheet) p (now out) × (n ≤ number.maxVars) × GoodClauses n (now lits) (now ends) ⌝ }
+    requires { ⌜ RoomIn n (now values) (now levels) (now reasons) (now trail) (now opened) (now next) (now prev) (now ts) ⌝ }
     ensures { λ r. ⌜ Ended (now (sheet .entry)) p (spec.opened vmtf n (now (lits .entry)) (now (ends .entry))) (now (out .entry)) r (now (out .exit)) ⌝ }
 {
     let k = n as usize;
-    let mut values = [UNASSIGNED; FEW as usize];
-    let mut levels = [NONE; FEW as usize];
-    let mut reasons = [NONE; FEW as usize];
-    let mut trail = [NONE; FEW as usize];
-    let mut opened = [NONE; FEW as usize];
-    let mut next = [NONE; FEW as usize];
-    let mut prev = [NONE; FEW as usize];
-    let mut ts = [0u64; FEW as usize];
     list_session(
         sheet,
         out,
@@ -155,34 +162,95 @@ fn few(sheet: &[u8], out: &mut [u8], n: u32, lits: &[u32], ends: &[u32], p: Plac
     )
 }
 
-// The rest with any number of variables.
-fn many(sheet: &[u8], out: &mut [u8], n: u32, lits: &[u32], ends: &[u32], p: Place) -> usize
-    requires { ⌜ Room (now sheet) p (now out) × (n ≤ number.maxVars) × GoodClauses n (now lits) (now ends) ⌝ }
+// The rest of a run with at most 64 variables: setting up long arrays costs more than a short run.
+fn in_64(sheet: &[u8], out: &mut [u8], n: u32, lits: &[u32], ends: &[u32], p: Place) -> usize
+    requires { ⌜ Room (now sheet) p (now out) × (n ≤ 64) × GoodClauses n (now lits) (now ends) ⌝ }
     ensures { λ r. ⌜ Ended (now (sheet .entry)) p (spec.opened vmtf n (now (lits .entry)) (now (ends .entry))) (now (out .entry)) r (now (out .exit)) ⌝ }
 {
-    let k = n as usize;
-    let mut values = [UNASSIGNED; 2048];
-    let mut levels = [NONE; 2048];
-    let mut reasons = [NONE; 2048];
-    let mut trail = [NONE; 2048];
-    let mut opened = [NONE; 2048];
-    let mut next = [NONE; 2048];
-    let mut prev = [NONE; 2048];
-    let mut ts = [0u64; 2048];
-    list_session(
+    let mut values = [UNASSIGNED; 64];
+    let mut levels = [NONE; 64];
+    let mut reasons = [NONE; 64];
+    let mut trail = [NONE; 64];
+    let mut opened = [NONE; 64];
+    let mut next = [NONE; 64];
+    let mut prev = [NONE; 64];
+    let mut ts = [0u64; 64];
+    in_arrays(
         sheet,
         out,
         n,
         lits,
         ends,
-        &mut values[..k],
-        &mut levels[..k],
-        &mut reasons[..k],
-        &mut trail[..k],
-        &mut opened[..k],
-        &mut next[..k],
-        &mut prev[..k],
-        &mut ts[..k],
+        &mut values,
+        &mut levels,
+        &mut reasons,
+        &mut trail,
+        &mut opened,
+        &mut next,
+        &mut prev,
+        &mut ts,
+        p,
+    )
+}
+
+// The same with at most 256.
+fn in_256(sheet: &[u8], out: &mut [u8], n: u32, lits: &[u32], ends: &[u32], p: Place) -> usize
+    requires { ⌜ Room (now sheet) p (now out) × (n ≤ 256) × GoodClauses n (now lits) (now ends) ⌝ }
+    ensures { λ r. ⌜ Ended (now (sheet .entry)) p (spec.opened vmtf n (now (lits .entry)) (now (ends .entry))) (now (out .entry)) r (now (out .exit)) ⌝ }
+{
+    let mut values = [UNASSIGNED; 256];
+    let mut levels = [NONE; 256];
+    let mut reasons = [NONE; 256];
+    let mut trail = [NONE; 256];
+    let mut opened = [NONE; 256];
+    let mut next = [NONE; 256];
+    let mut prev = [NONE; 256];
+    let mut ts = [0u64; 256];
+    in_arrays(
+        sheet,
+        out,
+        n,
+        lits,
+        ends,
+        &mut values,
+        &mut levels,
+        &mut reasons,
+        &mut trail,
+        &mut opened,
+        &mut next,
+        &mut prev,
+        &mut ts,
+        p,
+    )
+}
+
+// The same with any number of variables.
+fn in_all(sheet: &[u8], out: &mut [u8], n: u32, lits: &[u32], ends: &[u32], p: Place) -> usize
+    requires { ⌜ Room (now sheet) p (now out) × (n ≤ number.maxVars) × GoodClauses n (now lits) (now ends) ⌝ }
+    ensures { λ r. ⌜ Ended (now (sheet .entry)) p (spec.opened vmtf n (now (lits .entry)) (now (ends .entry))) (now (out .entry)) r (now (out .exit)) ⌝ }
+{
+    let mut values = [UNASSIGNED; MAX_VARS as usize];
+    let mut levels = [NONE; MAX_VARS as usize];
+    let mut reasons = [NONE; MAX_VARS as usize];
+    let mut trail = [NONE; MAX_VARS as usize];
+    let mut opened = [NONE; MAX_VARS as usize];
+    let mut next = [NONE; MAX_VARS as usize];
+    let mut prev = [NONE; MAX_VARS as usize];
+    let mut ts = [0u64; MAX_VARS as usize];
+    in_arrays(
+        sheet,
+        out,
+        n,
+        lits,
+        ends,
+        &mut values,
+        &mut levels,
+        &mut reasons,
+        &mut trail,
+        &mut opened,
+        &mut next,
+        &mut prev,
+        &mut ts,
         p,
     )
 }
@@ -195,8 +263,11 @@ pub fn rest(sheet: &[u8], out: &mut [u8], n: u32, lits: &[u32], ends: &[u32], p:
     if p.left == 0 {
         return p.at;
     }
-    if n <= FEW {
-        return few(sheet, out, n, lits, ends, p);
+    if n <= 64 {
+        return in_64(sheet, out, n, lits, ends, p);
     }
-    many(sheet, out, n, lits, ends, p)
+    if n <= 256 {
+        return in_256(sheet, out, n, lits, ends, p);
+    }
+    in_all(sheet, out, n, lits, ends, p)
 }
