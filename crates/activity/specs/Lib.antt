@@ -4,4 +4,3 @@ pub mod Step
 pub mod Upright
 pub mod Rounding
 pub mod Bounds
-pub mod Cases

@@ -81,18 +81,11 @@ impl Step {
     }
 }
 
-// Whether a decay is from 0.5 to 1.
+// Whether a decay is from 0.5 to 1. Refusal 12 comes where it is not: it is NaN, below 0.5 or above 1.
 pub fn good_decay(d: f64) -> bool
     ensures { λ r. ⌜ r ≡ spec.goodDecay d ⌝ }
 {
     MIN_DECAY <= d && d <= MAX_DECAY
-}
-
-// Refusal 12: the decay is NaN, below 0.5 or above 1.
-pub fn bad_decay(d: f64) -> bool
-    ensures { λ r. ⌜ r ≡ spec.badDecay d ⌝ }
-{
-    !good_decay(d)
 }
 
 // Multiplies every activity by 1e-100.

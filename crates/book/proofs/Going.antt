@@ -15,6 +15,7 @@ use Rattle.book.specs.Calls.{Line}
 use Rattle.book.specs.Book.{Entry, entry, Book, presentLevel, back, book, openings, valuesOf, counts}
 use Rattle.book.specs.Chooser.{Operations, Chooser}
 use Rattle.book.specs.Session.{Session, offerAll, wentBack}
+use Rattle.book.specs.Interleaved.{interleaved, Apart}
 use Rattle.book.proofs.Books.{length-openings, length-codes, back-same, Back, back-facts, Fine, fine-nil, fine-add, fine-drop}
 use Rattle.book.proofs.Memory.{at, in-range, Holds, Held, set-same, last-is, backstep-held, backsteps-held, close-held, rewind-held}
 
@@ -122,19 +123,13 @@ module _ (n m : ℕ) (O : Operations) (C : Chooser n m O) where
           let h : presentLevel b ≤ l = omega (arith, present, ltb-false l (s .trail .level) e) in
           rw (back-same l b h) g
 
-  -- ---- the first loop of `backtrack_to` as the source has it: `backstep`, and at once its variable to `insert`; k times
-  unfoldable pub interleaved : ℕ → Session n m O → Session n m O
-  interleaved zero s = s
-  interleaved (suc k) s = interleaved k (record { trail = backstep (s .trail); chooser = O .offer (last (s .trail)) (s .chooser) })
+  -- ---- the source's interleaving
 
   in-turn : (k : ℕ) (t : Trail) (c : O .State)
-      → interleaved k (record { trail = t; chooser = c }) ≡ record { trail = backsteps k t; chooser = offerAll n m O (lasts k t) c }
+      → interleaved n m O k (record { trail = t; chooser = c }) ≡ record { trail = backsteps k t; chooser = offerAll n m O (lasts k t) c }
   unfolding interleaved backsteps lasts offerAll
   in-turn zero t c = refl
   in-turn (suc k) t c = in-turn k (backstep t) (O .offer (last t) c)
 
-  -- the trail and the chooser may be moved one after the other
-  pub apart : (l : ℕ) (s : Session n m O) → getD (s .trail .opened) l 0 ≤ s .trail .len → s .trail .len ≤ length (s .trail .trail)
-      → interleaved (howMany l (s .trail)) s
-      ≡ record { trail = backsteps (howMany l (s .trail)) (s .trail); chooser = offerAll n m O (undone l (s .trail)) (s .chooser) }
+  pub apart : Apart n m O
   apart l s h h2 = rw (undone-lasts l (s .trail) h h2) (in-turn (howMany l (s .trail)) (s .trail) (s .chooser))

@@ -1,30 +1,15 @@
--- Document 01 by the letter. The book oldest entry first: `back`, `codes` and `openings` are what it says, by adding an entry at the end.
+-- The book by the letter of document 01, proved by adding an entry at the end of the book that has the oldest first.
 use Prim.Native.Nat.{ℕ, zero, suc, _+_, _≤_, _<_}
 use mathlib.Core.Path.{_≡_, refl, sym, ap, _∙_}
 use mathlib.Core.Bool.{Bool, true, false}
-use mathlib.Core.List.{List, [], _∷_, _++_, map, reverse, reverse-cons, map-append, append-nil}
+use mathlib.Core.List.{List, [], _∷_, _++_, reverse, reverse-cons, map-append, append-nil}
 use native.Mathlib.Omega.{arith}
 use native.Mathlib.Nat.{add-zero}
 use native.Mathlib.Decide.{decLt}
 use lib.ListN.{length, length-reverse}
 use Rattle.book.specs.Book.{Entry, entry, Book, presentLevel, back, codes, openings}
+use Rattle.book.specs.Letter.{keep, places, code, BackByTheLetter, CodesByTheLetter, OpeningsByTheLetter}
 use Rattle.book.proofs.Books.{back-same, back-over}
-
--- 'drops all from the (L+1)th opening entry on'
-unfoldable pub keep : ℕ → List Entry → List Entry
-keep l [] = []
-keep zero (entry c r true ∷ es) = []
-keep (suc l) (entry c r true ∷ es) = entry c r true ∷ keep l es
-keep l (entry c r false ∷ es) = entry c r false ∷ keep l es
-
--- 'the places of opening entries', the first entry's place being i
-unfoldable pub places : ℕ → List Entry → List ℕ
-places i [] = []
-places i (entry c r true ∷ es) = i ∷ places (i + 1) es
-places i (entry c r false ∷ es) = places (i + 1) es
-
-abbrev pub code : Entry → ℕ
-code (entry c r o) = c
 
 opens : Entry → ℕ
 opens (entry c r true) = 1
@@ -60,7 +45,7 @@ keep-over zero (entry c r true ∷ es) e h = refl
 keep-over (suc l) (entry c r true ∷ es) e h = ap {B = List Entry} (λ x. entry c r true ∷ x) (keep-over l es e (omega arith))
 keep-over l (entry c r false ∷ es) e h = ap {B = List Entry} (λ x. entry c r false ∷ x) (keep-over l es e h)
 
-pub back-by-the-letter : (l : ℕ) (b : Book) → reverse (back l b) ≡ keep l (reverse b)
+pub back-by-the-letter : BackByTheLetter
 back-by-the-letter l [] = unfold keep back in refl
 back-by-the-letter l (e ∷ b) = go (decLt l (presentLevel (e ∷ b))) (back-by-the-letter l b)
   where
@@ -70,7 +55,7 @@ back-by-the-letter l (e ∷ b) = go (decLt l (presentLevel (e ∷ b))) (back-by-
         rw (back-over l e b h, ih, reverse-cons) (sym (keep-over l (reverse b) e hl))
     go (no h) ih = rw (back-same l (e ∷ b) (omega arith)) (sym (keep-all l (reverse (e ∷ b)) (omega (arith, level-oldest (e ∷ b)))))
 
-pub codes-by-the-letter : (b : Book) → codes b ≡ map code (reverse b)
+pub codes-by-the-letter : CodesByTheLetter
 unfolding codes
 codes-by-the-letter [] = refl
 codes-by-the-letter (entry c r o ∷ b) = rw (reverse-cons, map-append code, codes-by-the-letter b)
@@ -81,7 +66,7 @@ places-snoc i k [] e q = ap (λ (x : ℕ). places x (e ∷ [])) (sym (add-zero i
 places-snoc i k (entry c r true ∷ es) e q = ap {B = List ℕ} (λ x. i ∷ x) (places-snoc (i + 1) k es e (omega arith))
 places-snoc i k (entry c r false ∷ es) e q = places-snoc (i + 1) k es e (omega arith)
 
-pub openings-by-the-letter : (b : Book) → openings b ≡ places 0 (reverse b)
+pub openings-by-the-letter : OpeningsByTheLetter
 unfolding openings places
 openings-by-the-letter [] = refl
 openings-by-the-letter (entry c r o ∷ b) =

@@ -4,7 +4,5 @@ pub mod Memory
 pub mod Going
 pub mod Steps
 pub mod Term3
-pub mod Runs
 pub mod Letter
-pub mod Model
 pub mod Guarded

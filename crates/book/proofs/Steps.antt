@@ -1,4 +1,4 @@
--- Each call leaves a session that the book fits and changes the trail by its steps alone. By cases on the call.
+-- Each call leaves a session that the book fits. By cases on the call.
 use Prim.Native.Nat.{ℕ, _/_, _%_, _<_}
 use mathlib.Core.Path.{_≡_, refl, sym, subst}
 use mathlib.Core.Bool.{Bool, true, false, cond}
@@ -6,12 +6,10 @@ use mathlib.Core.Option.{Option, none, some}
 use mathlib.Core.List.{List, [], _∷_}
 use native.Mathlib.Omega.{arith}
 use lib.ListN.{getD}
-use lib.Dec.{ltb, eqb}
+use lib.Dec.{eqb}
 use borrow.Author.Tests.{ltb-true, not-true}
-use Rattle.laws.specs.Tests.{cond-elim}
 use Rattle.lit.specs.Numbers.{NONE, largeStep, pastOpen}
 use Rattle.lit.specs.Lits.{index, polarity, new, isAssigned}
-use Rattle.trail.specs.Trail.{Trail, enqAssignment, enqDecision, backtrackTo, backtrackSafe}
 use Rattle.book.specs.Calls.{Call, bump, decay, setDecay, insert, switchOff, decide, enqueue, learnUnit, goBack, bumpReason, group, Line}
 use Rattle.book.specs.Book.{entry, Book, written, book, valuesOf, without, switched, on, counts}
 use Rattle.book.specs.Chooser.{Tune, bumpVariable, decayVarInc, setVarDecay, bumpReasonLiterals, bumpVecOfVars, goodReason, fits, Next, chose, nothing, stuck, NextRight, IfSome, Operations, Chooser}
@@ -19,14 +17,6 @@ use Rattle.book.specs.Session.{Result, done, refuse, status, reply, leav
 use Rattle.book.proofs.Books.{fine-add, says, is-unassigned}
 use Rattle.book.proofs.Memory.{enq-holds, dec-holds}
 use Rattle.book.proofs.Going.{Good, GoodAfter, went}
-
--- how a call may change the trail
-pub data Moves (n m : ℕ) (t : Trail) : Trail → Type 0 where
-  stays : Moves n m t t
-  backtracks : (l : ℕ) → l < t .level → Moves n m t (backtrackTo l t)
-  decides : (v p : ℕ) → v < n → p < 2 → isAssigned (t .values) v ≡ false → Moves n m t (enqDecision v p t)
-  assigns : (code reason : ℕ) {u : Trail} → index code < n → goodReason m reason ≡ true → isAssigned (u .values) (index code) ≡ false → Moves n m t u
-      → Moves n m t (enqAssignment code reason u)
 
 -- the switches that count at first, after a line that switches nothing off, and after one that does
 pub counts-nil : (sw : Bool) → counts sw [] ≡ (λ v. true)
@@ -48,11 +38,6 @@ counts-off false v ls = refl
 module _ (n m : ℕ) (O : Operations) (C : Chooser n m O) where
   pub record Kept (ls : List Line) (s : Session n m O) (c : Call) (x : Result (Session n m O)) : Type 0 where
     pub good : GoodAfter n m O C (record { call = c; status = status x; reply = reply x } ∷ ls) (leaves s x)
-    pub moves : Moves n m (s .trail) ((leaves s x) .trail)
-
-  went-moves : (l : ℕ) (s : Session n m O) → Moves n m (s .trail) ((wentBack n m O l s) .trail)
-  unfolding wentBack backtrackSafe
-  went-moves l s = cond-elim (Moves n m (s .trail)) (ltb l (s .trail .level)) (λ e. backtracks l (ltb-true l (s .trail .level) e)) (λ e. stays)
 
   enqueued-good : (code reason : ℕ) {b : Book} {o : ℕ → Bool} (u : Session n m O) → Good n m O C b o u → index code < n → goodReason m reason ≡ true
       → isAssigned (u .trail .values) (index code) ≡ false → Good n m O C (entry code reason false ∷ b) o (enqueued n m O code reason u)
@@ -72,7 +57,7 @@ module _ (n m : ℕ) (O : Operations) (C : Chooser n m O) where
   module _ (s : Session n m O) (ls : List Line) (g : GoodAfter n m O C ls s) where
     pub refused : {c : Call} (k : ℕ) → eqb k 0 ≡ false → Kept ls s c (refuse k)
     unfolding book on
-    refused {c} k e = record { good = rw (counts-same (O .switches) (record { call = c; status = k; reply = none }) ls (rw e), e) g; moves = stays }
+    refused {c} k e = record { good = rw (counts-same (O .switches) (record { call = c; status = k; reply = none }) ls (rw e), e) g }
 
     needed : {c : Call} (k : ℕ) (t : Bool) {x : Result (Session n m O)} → eqb k 0 ≡ false → (t ≡ true → Kept ls s c x) → Kept ls s c (need t k x)
     unfolding need
@@ -80,10 +65,10 @@ module _ (n m : ℕ) (O : Operations) (C : Chooser n m O) where
     needed k false e f = refused k e
 
     -- an accepted call that switches nothing off
-    kept-by : {c : Call} {r : Option ℕ} {u : Session n m O} → switched c (on ls) ≡ on ls → Moves n m (s .trail) (u .trail)
+    kept-by : {c : Call} {r : Option ℕ} {u : Session n m O} → switched c (on ls) ≡ on ls
         → Good n m O C (written c r (book ls)) (counts (O .switches) ls) u → Kept ls s c (done r u)
     unfolding book on
-    kept-by {c} {r} e mv q = record { good = rw (counts-same (O .switches) (record { call = c; status = 0; reply = r }) ls e) q; moves = mv }
+    kept-by {c} {r} e q = record { good = rw (counts-same (O .switches) (record { call = c; status = 0; reply = r }) ls e) q }
 
     with-good : {o : ℕ → Bool} (c : O .State) → C .ok (valuesOf n (book ls)) o c → Good n m O C (book ls) o (withChooser n m O c s)
     with-good c q = record { fine = g .fine; holds = g .holds; ok = q }
@@ -95,7 +80,7 @@ module _ (n m : ℕ) (O : Operations) (C : Chooser n m O) where
       where
         go : (x : Option (O .State)) → IfSome (C .ok (valuesOf n (book ls)) (counts (O .switches) ls)) x → Kept ls s c (tuned n m O s x)
         go none q = refused largeStep refl
-        go (some d) q = kept-by e2 stays (rw e (with-good d q))
+        go (some d) q = kept-by e2 (rw e (with-good d q))
 
     pub asked : Owed ls (O .getNext (s .trail .values) (s .chooser))
     asked = subst (λ (vs : List ℕ). Owed ls (O .getNext vs (s .chooser))) (sym (g .holds .values)) (C .getNext-ok (s .chooser) (g .ok))
@@ -109,17 +94,17 @@ module _ (n m : ℕ) (O : Operations) (C : Chooser n m O) where
             let e = is-unassigned (g .fine) v hv a in
             let q1 : new v p / 2 ≡ v = omega arith in
             let q2 : new v p % 2 ≡ p = omega arith in
-            kept-by refl (decides v p hv hp (rw (g .holds .values) a)) (record {
+            kept-by refl (record {
               fine = fine-add {c = new v p} {b = book ls} (rw q1 hv) refl (rw q1 e) (g .fine);
               holds = dec-holds v p (g .fine) hv hp e (g .holds);
               ok = rw (q1, q2) (f p hp);
             })
-        go (nothing d) (_, q) = kept-by refl stays (with-good d q)
+        go (nothing d) (_, q) = kept-by refl (with-good d q)
         go stuck q = refused pastOpen refl
 
     off-kept : (v : ℕ) → v < n → Kept ls s (switchOff v) (done none (withChooser n m O (O .turnOff v (s .chooser)) s))
     unfolding book written
-    off-kept v h = record { good = rw (counts-off (O .switches) v ls) (with-good _ (C .turnOff-ok v (s .chooser) h (g .ok))); moves = stays }
+    off-kept v h = record { good = rw (counts-off (O .switches) v ls) (with-good _ (C .turnOff-ok v (s .chooser) h (g .ok))) }
 
     pub kept : (c : Call) → Kept ls s c (call n m O s c)
     unfolding call written switched fits enqueued
@@ -128,7 +113,7 @@ module _ (n m : ℕ) (O : Operations) (C : Chooser n m O) where
     kept (setDecay d) = needed _ _ refl (λ h. tune-kept (setVarDecay d) h refl refl)
     kept (insert v) =
         needed _ _ refl (λ h.
-        kept-by refl stays (with-good (O .insert v (s .chooser)) (C .insert-ok v (s .chooser) (ltb-true v n h) (g .ok))))
+        kept-by refl (with-good (O .insert v (s .chooser)) (C .insert-ok v (s .chooser) (ltb-true v n h) (g .ok))))
     kept (switchOff v) = needed _ _ refl (λ h. off-kept v (ltb-true v n h))
     kept (decide p) = needed _ _ refl (λ h. decide-kept p (ltb-true p 2 h))
     kept (enqueue code reason) =
@@ -137,15 +122,15 @@ module _ (n m : ℕ) (O : Operations) (C : Chooser n m O) where
         needed _ _ refl (λ q.
         let hv : index code < n = ltb-true (index code) n h in
         let a = not-true (isAssigned (s .trail .values) (index code)) q in
-        kept-by refl (assigns code reason hv hr a stays) (enqueued-good code reason s g hv hr a))))
+        kept-by refl (enqueued-good code reason s g hv hr a))))
     kept (learnUnit code) =
         let u = wentBack n m O 0 s in
         needed _ _ refl (λ h.
         needed _ _ refl (λ q.
         let hv : index code < n = ltb-true (index code) n h in
         let a = not-true (isAssigned (u .trail .values) (index code)) q in
-        kept-by refl (assigns code NONE hv refl a (went-moves 0 s)) (enqueued-good code NONE u (went n m O C 0 s g) hv refl a)))
-    kept (goBack l) = kept-by refl (went-moves l s) (went n m O C l s g)
+        kept-by refl (enqueued-good code NONE u (went n m O C 0 s g) hv refl a)))
+    kept (goBack l) = kept-by refl (went n m O C l s g)
     kept (bumpReason v) =
         needed _ _ refl (λ h.
         let r = says (g .fine) v (ltb-true v n h) .reason-good in

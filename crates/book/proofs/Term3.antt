@@ -15,7 +15,7 @@ use Rattle.book.specs.Calls.{Call, decide, learnUnit, Line}
 use Rattle.book.specs.Book.{Book, presentLevel, back, book, openings, valuesOf}
 use Rattle.book.specs.Chooser.{Next, chose, nothing, stuck, Operations, Chooser}
 use Rattle.book.specs.Session.{done, refuse, status, reply, leaves, need, Session, fresh, wentBack, enqueued, decided, call}
-use Rattle.book.specs.Claim.{Event, Past, log, Records, recordsOf, recordsIn, SettledBy, Raises, JustBefore, here, earlier, AsThen, Each, Run, begin, extended, step, run, Claim, Term3}
+use Rattle.book.specs.Claim.{Event, Past, log, Records, recordsOf, recordsIn, SettledBy, Raises, JustBefore, here, earlier, AsThen, Each, Run, begin, extended, step, run, Claim, Term3, SettledAccepted}
 use Rattle.book.proofs.Books.{length-openings, Seen, raised, over, seen, fine-nil}
 use Rattle.book.proofs.Memory.{fresh-holds, told}
 use Rattle.book.proofs.Going.{GoodAfter, went}
@@ -64,11 +64,11 @@ module _ (n m : ℕ) (O : Operations) (C : Chooser n m O) where
       go true (nothing d) (q, o) a = ((λ e. q), (λ f. refl))
       go true stuck q a = absurd (false≢true a)
 
-  -- and where all is settled, a decide is not refused with 14
-  pub settled-accepted : (s : Session n m O) (ls : List Line) → GoodAfter n m O C ls s → SettledBy n (O .switches) ls → (p : ℕ) → p < 2
+  -- where all is settled, a decide is not refused with 14
+  settled-now : (s : Session n m O) (ls : List Line) → GoodAfter n m O C ls s → SettledBy n (O .switches) ls → (p : ℕ) → p < 2
       → status (call n m O s (decide p)) ≡ 0
   unfolding call need decided
-  settled-accepted s ls g f p h = rw (lt-ltb p 2 h) (go (O .getNext (s .trail .values) (s .chooser)) (asked n m O C s ls g))
+  settled-now s ls g f p h = rw (lt-ltb p 2 h) (go (O .getNext (s .trail .values) (s .chooser)) (asked n m O C s ls g))
     where
       go : (x : Next (O .State)) → Owed n m O C ls x → status (decided n m O p s x) ≡ 0
       go (chose v d) q = refl
@@ -152,8 +152,11 @@ module _ (n m : ℕ) (O : Operations) (C : Chooser n m O) where
   ran r (c ∷ cs) i = ran (step n m O r c) cs (stepped r c i)
 
   -- every session of a run is good
-  pub every : (calls : List Call) → Inv (run n m O (begin n m O) calls)
+  every : (calls : List Call) → Inv (run n m O (begin n m O) calls)
   every calls = ran (begin n m O) calls began
 
   pub term3 : Term3 n m O
   term3 calls = every calls .claim
+
+  pub settled-accepted : SettledAccepted n m O
+  settled-accepted calls p f h = settled-now _ _ (every calls .good) f p h

@@ -1,4 +1,4 @@
--- Term 3: 'one claim on the whole list, not one per call'. proofs/Term3.antt proves it.
+-- Term 3: 'one claim on the whole list, not one per call'. proofs/Term3.antt proves it: `term3`, `settled-accepted`.
 use Prim.Native.Nat.{ℕ, _+_, _<_}
 use mathlib.Core.Path.{_≡_}
 use mathlib.Core.Logic.{_↔_}
@@ -139,3 +139,8 @@ module _ (n m : ℕ) (O : Operations) where
   -- 'For every list of a session's calls .., refused ones included'
   abbrev pub Term3 : Type 0
   Term3 = (calls : List Call) → Claim (run begin calls)
+
+  -- and the other half of (b): once all is settled by the book, a decide with a good polarity is accepted, so it answers "none"
+  abbrev pub SettledAccepted : Type 0
+  SettledAccepted = (calls : List Call) (p : ℕ) → let r = run begin calls in
+      SettledBy n (O .switches) (log (r .past)) → p < 2 → status (call n m O (r .now) (decide p)) ≡ 0

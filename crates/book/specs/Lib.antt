@@ -1,7 +1,10 @@
--- Term 3: the calls, the book that is kept of them, a chooser as operations and laws, a session's step, the claim, and calls behind checks.
+-- Term 3: the calls, the book that is kept of them and its letter, a chooser as operations and laws, a session's step and its going back,
+-- the claim, and calls behind checks.
 pub mod Calls
 pub mod Book
+pub mod Letter
 pub mod Chooser
 pub mod Session
+pub mod Interleaved
 pub mod Claim
 pub mod Guarded

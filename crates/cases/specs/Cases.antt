@@ -196,8 +196,8 @@ pub case-L : Holds formulaCheck (record {
 unfolding definitions
 case-L = (refl, refl)
 
--- the three answers in numbers, each with status 0
-pub case-L-numbers : map checkedNumbers (Answer Sat ∷ Answer Err ∷ Answer Unsat ∷ []) ≡ (0, 1) ∷ (0, 0) ∷ (0, 2) ∷ []
+-- these answers in numbers, each with status 0
+pub case-L-numbers : map checkedNumbers (Answer Sat ∷ Answer Err ∷ Answer Unsat ∷ Answer Err ∷ Answer Err ∷ []) ≡ (0, 1) ∷ (0, 0) ∷ (0, 2) ∷ (0, 0) ∷ (0, 0) ∷ []
 unfolding checkedNumbers satNumber
 case-L-numbers = refl
 

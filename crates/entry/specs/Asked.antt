@@ -1,9 +1,6 @@
 -- What an entry point gets with a call.
 use Prim.Native.Nat.{ℕ}
-use mathlib.Core.Path.{_≡_}
-use mathlib.Core.Bool.{false}
 use mathlib.Core.List.{List}
-use lib.Dec.{eqb}
 use Rattle.book.specs.Calls.{Call}
 use Rattle.calls.specs.declared.Call as code
 use Rattle.calls.specs.Calls.{callOf}
@@ -22,11 +19,17 @@ asks call vars stamps order = record { call = call; vars = vars; stamps = stamps
 abbrev pub asked : Asked → Call
 asked a = callOf (a .call) (a .vars)
 
--- how a call of a session comes: with the sizes and the clause list that the session was made with, or with others, and then refused
+-- a call on the memory of a session that is lent with sizes and a clause list of its own: N, the stated number of clauses, the literals with
+-- their stated number, and the ends
+pub record Elsewhere : Type 0 where
+  pub n : ℕ
+  pub m : ℕ
+  pub lits : List ℕ
+  pub literals : ℕ
+  pub ends : List ℕ
+  pub ask : Asked
+
+-- how a call of a session comes: with the sizes and the clause list that the session was made with, or with others
 pub data Lent : Type 0 where
   asMade : Asked → Lent
-  otherwise : Asked → (k : ℕ) → eqb k 0 ≡ false → Lent
-
-abbrev pub lentCall : Lent → Call
-lentCall (asMade a) = asked a
-lentCall (otherwise a k e) = asked a
+  otherwise : Elsewhere → Lent

@@ -1,5 +1,5 @@
 -- What holds of the entry points in either mode: on good memory a checked call is the call, from any other it is refused, and where it is
--- accepted it leaves a good session; and term 3.
+-- accepted it leaves a good session; and what an accepted creation makes.
 use Prim.Native.Nat.{ℕ, _≤_}
 use mathlib.Core.Path.{_≡_}
 use mathlib.Core.Logic.{_↔_}
@@ -14,13 +14,9 @@ use Rattle.formula.specs.Clauses.{clausesOk}
 use Rattle.formula.specs.Good.{GoodClauses, clauses-facts}
 use Rattle.trail.specs.Memory.{Sized}
 use Rattle.book.specs.Calls.{Call}
-use Rattle.book.specs.Chooser.{Chooser}
-use Rattle.book.specs.Session.{Result, done, refuse, status, leaves, Session, fresh, call}
-use Rattle.book.specs.Claim.{Run, begin, Claim}
-use Rattle.book.specs.Guarded.{Guarded, declined, runBy}
-use Rattle.book.proofs.Guarded.{guarded-term3, throughout}
-use Rattle.entry.specs.Asked.{Asked, Lent, asMade, otherwise, asked, lentCall}
-use Rattle.entry.specs.Checks.{stateRefusal, size-passed, state-passed, passed-none, size-accepted, accepted, size-zero, checked-zero, checked-guarded}
+use Rattle.book.specs.Session.{done, status, leaves, Session, fresh, call}
+use Rattle.entry.specs.Asked.{Asked, asked}
+use Rattle.entry.specs.Checks.{stateRefusal, size-passed, state-passed, passed-none, size-accepted, accepted, size-zero, checked-zero}
 use Rattle.entry.specs.Mode.{scratchLengths, Mode, lengthsOk, entered, made}
 use Rattle.entry.specs.Sizes.{both, Sizes, sizes-right, right-sizes}
 
@@ -42,6 +38,25 @@ pub record Sound (n m : ℕ) (M : Mode) (lits ends : List ℕ) : Type 1 where
 pub record RightScratch (a : Asked) : Type 0 where
   pub stamps-long : length (a .stamps) ≡ length (a .vars)
   pub order-long : length (a .order) ≡ length (a .vars)
+
+-- what an accepted creation shows of the sizes and the clause list that it was lent
+pub record Founded (n m : ℕ) (lits ends : List ℕ) : Type 0 where
+  pub small : n ≤ maxVars
+  pub stated : length ends ≡ m
+  pub clauses : GoodClauses n lits ends
+
+module _ (n m : ℕ) (M : Mode) (lits : List ℕ) (literals : ℕ) (ends : List ℕ) (scratch : Bool) (s : Session n m (M .ops)) (accepted : status (made n m M lits literals ends scratch s) ≡ 0) where
+  pub made-sizes : Founded n m lits ends
+  unfolding made
+  made-sizes =
+      let p = size-passed n _ _ (size-zero n _ _ (done none (fresh n m (M .ops))) accepted) in
+      let z = sizes-right n m M lits literals ends s scratch (p .lengths-ok) in
+      record { small = p .small; stated = z .0 .ends-long; clauses = clauses-facts n lits ends .0 (p .clauses-ok) }
+
+  -- the session that it makes is the fresh one
+  pub made-fresh : leaves s (made n m M lits literals ends scratch s) ≡ fresh n m (M .ops)
+  unfolding made
+  made-fresh = rw (size-accepted n _ _ (done none (fresh n m (M .ops))) (size-zero n _ _ (done none (fresh n m (M .ops))) accepted))
 
 module _ (n m : ℕ) (M : Mode) (lits : List ℕ) (literals : ℕ) (ends : List ℕ) (L : Sound n m M lits ends) where
   -- the memory that was lent is good: the lengths, the clause list and the session
@@ -107,37 +122,6 @@ module _ (n m : ℕ) (M : Mode) (lits : List ℕ) (literals : ℕ) (ends : List 
 
   -- and creation, where it is accepted, makes one
   pub made-good : (scratch : Bool) (s : Session n m (M .ops)) → status (made n m M lits literals ends scratch s) ≡ 0 → L .Good (leaves s (made n m M lits literals ends scratch s))
-  unfolding made
   made-good scratch s e =
-      let k = size-zero n _ _ (done none (fresh n m (M .ops))) e in
-      let p = size-passed n _ _ k in
-      let z = sizes-right n m M lits literals ends s scratch (p .lengths-ok) in
-      rw (size-accepted n _ _ (done none (fresh n m (M .ops))) k) (L .fresh-good (p .small) (z .0 .ends-long) (clauses-facts n lits ends .0 (p .clauses-ok)))
-
--- a run as in `book`, of checked calls
-module _ (n m : ℕ) (M : Mode) (lits : List ℕ) (literals : ℕ) (ends : List ℕ) where
-  abbrev pub lentAnswer : Session n m (M .ops) → Lent → Result (Session n m (M .ops))
-  lentAnswer s (asMade a) = entered n m M lits literals ends a s
-  lentAnswer s (otherwise a k e) = refuse k
-
-  abbrev pub runChecked : Run n m (M .ops) → List Lent → Run n m (M .ops)
-  runChecked = runBy n m (M .ops) lentCall lentAnswer
-
-  guards : (s : Session n m (M .ops)) (a : Lent) → Guarded (call n m (M .ops) s (lentCall a)) (lentAnswer s a)
-  unfolding entered
-  guards s (asMade a) = checked-guarded n _ _ _ _
-  guards s (otherwise a k e) = declined k e
-
-  -- Term 3 of every list of checked calls from a fresh session, whatever is lent with them
-  pub checked-term3 : Chooser n m (M .ops) → (asks : List Lent) → Claim n m (M .ops) (runChecked (begin n m (M .ops)) asks)
-  checked-term3 C asks = guarded-term3 n m (M .ops) lentCall lentAnswer guards C asks
-
-  module _ (L : Sound n m M lits ends) (b : n ≤ maxVars) (em : length ends ≡ m) (g : GoodClauses n lits ends) where
-    -- every session of such a run is good
-    pub run-good : (asks : List Lent) → L .Good ((runChecked (begin n m (M .ops)) asks) .now)
-    run-good asks = throughout n m (M .ops) lentCall lentAnswer guards (L .Good) (L .kept) (L .fresh-good b em g) asks
-
-    -- so a call lent as the session was made is refused before its own tests only for its scratch
-    pub run-unchecked : length lits ≡ literals → (asks : List Lent) (a : Asked) → RightScratch a → let s = (runChecked (begin n m (M .ops)) asks) .now in
-        entered n m M lits literals ends a s ≡ call n m (M .ops) s (asked a)
-    run-unchecked el asks a z = unchecked n m M lits literals ends L a _ (good-memory n m M lits literals ends L el em g a z _ (run-good asks))
+      let p = made-sizes n m M lits literals ends scratch s e in
+      rw (made-fresh n m M lits literals ends scratch s e) (L .fresh-good (p .small) (p .stated) (p .clauses))

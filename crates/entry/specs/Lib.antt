@@ -5,3 +5,4 @@ pub mod Mode
 pub mod Sizes
 pub mod Kept
 pub mod Entered
+pub mod Runs

@@ -7,15 +7,15 @@ use mathlib.Core.List.{List, [], _∷_, _++_}
 use native.Mathlib.Decide.{ℕ-discrete, decLt}
 use native.Mathlib.Omega.{arith}
 use borrow.Author.Tests.{leb-true, ltb-true, le-leb, lt-ltb}
-use lib.ListN.{length, getD, drop, length-append, length-drop, List·getD-append}
+use lib.ListN.{length, getD, length-append, List·getD-append}
 use lib.Dec.{leb, ltb}
-use lib.Seq.{getD-append-seam, getD-append-add, take-append-le, drop-append-le, drop-append-seam, take-length}
+use lib.Seq.{getD-append-seam, getD-append-add}
 use Rattle.laws.specs.Tests.{and-left, and-right, and-both, same-test}
 use Rattle.laws.specs.Every.{every, every-at, every-all}
 use Rattle.lit.specs.Numbers.{maxClauses, maxLiterals}
 use Rattle.lit.specs.Lits.{index}
-use Rattle.formula.specs.Clauses.{start, clause, endsOk, listOk, clausesOk, clauseFits, varsBelow, varBelow}
-use Rattle.formula.specs.Good.{GoodList, GoodClauses, clauses-facts, last-start}
+use Rattle.formula.specs.Clauses.{endsOk, listOk, clausesOk, clauseFits, varsBelow, varBelow}
+use Rattle.formula.specs.Good.{GoodClauses, clauses-facts}
 use Rattle.formula.specs.Reading.{clause-at}
 
 pub none-ok : (n : ℕ) → clausesOk n [] [] ≡ true
@@ -85,19 +85,3 @@ fits-added n lits ends codes ok =
     let g = clauses-facts n lits ends .0 ok in
     let facts = clauses-facts n (lits ++ codes) (withEnd lits ends codes) in
     same-test _ _ (λ e. fits-forth g codes (facts .0 e)) (λ e. facts .1 (fits-back g codes e))
-
--- The clauses that were there stay, and the new one is the last.
-module _ {lits ends : List ℕ} (g : GoodList lits ends) (codes : List ℕ) where
-  same-start : (i : ℕ) → i ≤ length ends → start (withEnd lits ends codes) i ≡ start ends i
-  same-start i h = List·getD-append (0 ∷ ends) ((length lits + length codes) ∷ []) 0 i (omega arith)
-
-  pub clause-kept : (i : ℕ) → i < length ends → clause (lits ++ codes) (withEnd lits ends codes) i ≡ clause lits ends i
-  clause-kept i one =
-      let at = clause-at g i one in
-      let k : getD ends i 0 - start ends i ≤ length (drop (start ends i) lits) = simp length-drop (omega arith) in
-      rw (same-start i (omega arith), old-end lits ends codes i one, drop-append-le (start ends i) lits codes (omega arith), take-append-le _ _ codes k)
-
-  pub clause-added : clause (lits ++ codes) (withEnd lits ends codes) (length ends) ≡ codes
-  clause-added =
-      let all : length lits + length codes - length lits ≡ length codes = omega arith in
-      rw (same-start (length ends) (omega arith), last-start g, new-end lits ends codes, all, drop-append-seam, take-length)

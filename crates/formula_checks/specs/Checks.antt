@@ -65,7 +65,11 @@ checkFormulaInvariantCall n lits ends literals count =
     cond (ltb maxVars n) (checked.Refused manyVars)
     (checkedUnless (listRefusal lits ends literals count) (checkFormulaInvariant n (clauses lits ends)))
 
--- The numbers: status 0 and the reply, or the refusal and NONE. The answers of a formula are numbered in document 01's order.
+-- The numbers: status 0 and the reply, or the refusal and NONE. False and true are 0 and 1; the answers of a formula are numbered in
+-- document 01's order.
+abbrev pub truthNumber : Bool → ℕ
+truthNumber b = cond b 1 0
+
 unfoldable pub satNumber : SatResult → ℕ
 satNumber Err = 0
 satNumber Sat = 1
@@ -74,7 +78,7 @@ satNumber Unknown = 3
 
 unfoldable pub testedNumbers : Tested → ℕ × ℕ
 testedNumbers (tested.Refused k) = (k, NONE)
-testedNumbers (tested.Answer b) = (0, cond b 1 0)
+testedNumbers (tested.Answer b) = (0, truthNumber b)
 
 unfoldable pub checkedNumbers : Checked → ℕ × ℕ
 checkedNumbers (checked.Refused k) = (k, NONE)

@@ -2,4 +2,4 @@
 pub mod Checks
 pub mod Marks
 pub mod Distinct
-pub mod CaseL
+pub mod Replies

@@ -1,36 +1,57 @@
 -- Term 3 in heap mode, on the entry points' own definition.
-use Prim.Native.Nat.{ℕ, _≤_}
+use Prim.Native.Nat.{ℕ}
 use mathlib.Core.Path.{_≡_}
+use mathlib.Core.Bool.{true}
 use mathlib.Core.List.{List}
 use lib.ListN.{length}
-use Rattle.lit.specs.Numbers.{maxVars}
-use Rattle.formula.specs.Good.{GoodClauses}
 use Rattle.choosers.specs.Heap.{heapOps}
-use Rattle.book.specs.Session.{call}
+use Rattle.book.specs.Chooser.{Chooser}
+use Rattle.book.specs.Session.{status, leaves, Session, call}
 use Rattle.book.specs.Claim.{Run, begin, Claim}
-use Rattle.entry.specs.Asked.{Asked, Lent, asked}
+use Rattle.entry.specs.Asked.{Asked, asked, Elsewhere, Lent}
 use Rattle.entry.specs.Entered as either
-use Rattle.entry.specs.Entered.{RightScratch}
-use Rattle.heap_entry.specs.Entry.{heapMode, entered}
+use Rattle.entry.specs.Entered.{RightScratch, Founded}
+use Rattle.entry.specs.Runs as runs
+use Rattle.heap_entry.specs.Entry.{heapMode, entered, made}
 use Rattle.heap_entry.specs.Kept.{chooser, IsGood}
 use Rattle.heap_entry.specs.Checked.{heap-sound}
 
 module _ (n m : ℕ) (lits : List ℕ) (literals : ℕ) (ends : List ℕ) where
+  -- the status of a call on the session's memory that is lent with other sizes or another clause list
+  abbrev pub elsewhere : Session n m (heapOps n lits ends) → Elsewhere → ℕ
+  elsewhere s o = status (entered (o .n) (o .m) (o .lits) (o .literals) (o .ends) (o .ask) (record { trail = s .trail; chooser = s .chooser }))
+
   -- a run as in `book`, of checked calls
   abbrev pub runChecked : Run n m (heapOps n lits ends) → List Lent → Run n m (heapOps n lits ends)
-  runChecked = either.runChecked n m (heapMode n m lits ends) lits literals ends
+  runChecked = runs.runChecked n m (heapMode n m lits ends) lits literals ends elsewhere
 
-  module _ (small : n ≤ maxVars) (stated : length ends ≡ m) (clauses : GoodClauses n lits ends) (asks : List Lent) where
-    -- Term 3: over every list of calls from a fresh session, refused ones included, whatever is lent with them
+  abbrev pub startingWith : Session n m (heapOps n lits ends) → Run n m (heapOps n lits ends)
+  startingWith = runs.startingWith n m (heapMode n m lits ends) lits literals ends elsewhere
+
+  chosen : Founded n m lits ends → Chooser n m (heapOps n lits ends)
+  chosen f = chooser n m lits ends (f .small) (f .stated) (f .clauses)
+
+  -- an accepted creation makes the session that `begin` has
+  pub made-begins : (s : Session n m (heapOps n lits ends)) → status (made n m lits literals ends s) ≡ 0 → leaves s (made n m lits literals ends s) ≡ (begin n m (heapOps n lits ends)) .now
+  unfolding begin
+  made-begins s = either.made-fresh n m (heapMode n m lits ends) lits literals ends true s
+
+  -- Term 3: over every list of calls from the session that an accepted creation made, refused ones included, whatever is lent with them
+  pub made-term3 : (s : Session n m (heapOps n lits ends)) → status (made n m lits literals ends s) ≡ 0
+      → (asks : List Lent) → Claim n m (heapOps n lits ends) (runChecked (startingWith (leaves s (made n m lits literals ends s))) asks)
+  made-term3 = runs.made-term3 n m (heapMode n m lits ends) lits literals ends elsewhere chosen true
+
+  module _ (founded : Founded n m lits ends) (asks : List Lent) where
+    -- and from every fresh session with at most 2,048 variables and a good clause list
     pub heap-term3 : Claim n m (heapOps n lits ends) (runChecked (begin n m (heapOps n lits ends)) asks)
-    heap-term3 = either.checked-term3 n m (heapMode n m lits ends) lits literals ends (chooser n m lits ends small stated clauses) asks
+    heap-term3 = runs.checked-term3 n m (heapMode n m lits ends) lits literals ends elsewhere (chosen founded) asks
 
     -- every session of such a run is good
     pub run-good : IsGood n m lits ends ((runChecked (begin n m (heapOps n lits ends)) asks) .now)
     unfolding heap-sound
-    run-good = either.run-good n m (heapMode n m lits ends) lits literals ends (heap-sound n m lits ends) small stated clauses asks
+    run-good = runs.run-good n m (heapMode n m lits ends) lits literals ends elsewhere (heap-sound n m lits ends) founded asks
 
     -- so a call lent as the session was made is refused before its own tests only for its scratch
     pub run-unchecked : length lits ≡ literals → (a : Asked) → RightScratch a → let s = (runChecked (begin n m (heapOps n lits ends)) asks) .now in
         entered n m lits literals ends a s ≡ call n m (heapOps n lits ends) s (asked a)
-    run-unchecked el a z = either.run-unchecked n m (heapMode n m lits ends) lits literals ends (heap-sound n m lits ends) small stated clauses el asks a z
+    run-unchecked el a z = runs.run-unchecked n m (heapMode n m lits ends) lits literals ends elsewhere (heap-sound n m lits ends) founded el asks a z

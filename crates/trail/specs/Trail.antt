@@ -81,32 +81,18 @@ unfoldable pub backsteps : ℕ → Trail → Trail
 backsteps zero t = t
 backsteps (suc k) t = backsteps k (backstep t)
 
+-- the same trail with these opened levels, this level and this `curr_i`
+abbrev withLevels : List ℕ → ℕ → ℕ → Trail → Trail
+withLevels opened level curr t = record { values = t .values; levels = t .levels; reasons = t .reasons; trail = t .trail; opened = opened; len = t .len; level = level; curr = curr }
+
 -- its second loop: k levels less
 unfoldable pub closeLevels : ℕ → Trail → Trail
 closeLevels zero t = t
-closeLevels (suc k) t = closeLevels k (record {
-  values = t .values;
-  levels = t .levels;
-  reasons = t .reasons;
-  trail = t .trail;
-  opened = set (t .opened) (t .level - 1) NONE;
-  len = t .len;
-  level = t .level - 1;
-  curr = t .curr;
-})
+closeLevels (suc k) t = closeLevels k (withLevels (set (t .opened) (t .level - 1) NONE) (t .level - 1) (t .curr) t)
 
 -- its last line
 unfoldable pub rewind : Trail → Trail
-rewind t = record {
-  values = t .values;
-  levels = t .levels;
-  reasons = t .reasons;
-  trail = t .trail;
-  opened = t .opened;
-  len = t .len;
-  level = t .level;
-  curr = t .len;
-}
+rewind t = withLevels (t .opened) (t .level) (t .len) t
 
 -- how many variables going back to level l undoes
 abbrev pub howMany : ℕ → Trail → ℕ

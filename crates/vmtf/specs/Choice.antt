@@ -13,7 +13,7 @@ use Rattle.lit.specs.Numbers.{NONE, unassigned}
 use Rattle.lit.specs.Lits.{isAssigned}
 use Rattle.vmtf.specs.declared.Next.{Next}
 use Rattle.vmtf.specs.declared.Next.the-variants.{Chose, Nothing, Stuck}
-use Rattle.vmtf.specs.Vmtf.{Vmtf, vmtfOf, past, insert, isOpen, from, firstOpen, anyOpen, getNext}
+use Rattle.vmtf.specs.Vmtf.{Vmtf, vmtfOf, past, isOpen, from, firstOpen, anyOpen, getNext}
 use Rattle.vmtf.specs.Laws.{found, any-open, none-open}
 use Rattle.vmtf.specs.Good.{GoodList, good-safe, good-ends}
 
@@ -23,11 +23,6 @@ abbrev pub NextIs : ℕ → List ℕ → List ℕ → Vmtf → Next → Type 0
 NextIs n order values l (Chose s v) = (v < n) × (isAssigned values v ≡ false) × GoodList n order (vmtfOf (l .next) (l .prev) (l .ts) s)
 NextIs n order values l Nothing = (v : ℕ) → v < n → isAssigned values v ≡ true
 NextIs n order values l Stuck = ¬ ((v : ℕ) → v < n → isAssigned values v ≡ true)
-
--- a variable that becomes unassigned leaves the list good
-pub insert-good : {n : ℕ} {order : List ℕ} {l : Vmtf} (v : ℕ) → GoodList n order l → GoodList n order (insert v l)
-unfolding insert
-insert-good v g = g
 
 -- open is unassigned
 pub open-unassigned : (values : List ℕ) (v : ℕ) → isOpen values v ≡ true → isAssigned values v ≡ false

@@ -8,4 +8,3 @@ pub mod Sort
 pub mod Fresh
 pub mod Choice
 pub mod Check
-pub mod Cases

@@ -13,7 +13,7 @@ use borrow.Author.Tests.{eq-eqb, ne-eqb, leb-true, leb-false}
 use Rattle.laws.specs.Tests.{cond-elim}
 use Rattle.util.specs.Pairs.{times}
 use Rattle.util.specs.Rising.{Rising, SortedByStamp, VarByStamp, one-result}
-use Rattle.vmtf.specs.Vmtf.{Vmtf, stampsOf, insertByStamp, byStamp, Vars, Group}
+use Rattle.vmtf.specs.Vmtf.{Vmtf, stampsOf, insertByStamp, byStamp, Vars}
 use Rattle.vmtf.specs.Order.{count, count-here, count-there, count-nil, at-every, every-at}
 use Rattle.vmtf.specs.Good.{Falls, GoodList, falls-below, in-order}
 use Rattle.vmtf.specs.Laws.{stamp-at}
@@ -136,12 +136,3 @@ group-apart {n} {order} {l} g vs h i j a b e =
     let p : i < length vs = rw length-map at a in
     let q : j < length vs = rw length-map at b in
     falls-apart (l .ts) (l .timestamp) order (g .falls) (getD vs i 0) (getD vs j 0) (in-order (g .linked) _ (h i p)) (in-order (g .linked) _ (h j q)) (stamp-at (l .ts) vs i p ∙ e ∙ sym (stamp-at (l .ts) vs j q))
-
--- a good list is ready for a group
-pub group-ready : {n : ℕ} {order : List ℕ} {l : Vmtf} → GoodList n order l → (vs : List ℕ) {stamps scratch : List ℕ} → Vars n vs → length stamps ≡ length vs → length scratch ≡ length vs → Group vs (l .ts) stamps scratch
-group-ready g vs h a b = record {
-  vars = λ i k. omega (arith, h i k, g .ts-long);
-  stamps-long = a;
-  order-long = b;
-  apart = group-apart g vs h;
-}

@@ -91,16 +91,13 @@ renumber next (suc k) curr ts =
     let r = renumber next k (getD next curr 0) (set ts curr (suc k)) in
     cond (eqb curr NONE) ts r
 
+-- the same list with these stamps and this timestamp
+abbrev withStamps : List ℕ → ℕ → Vmtf → Vmtf
+withStamps ts timestamp l = record { next = l .next; prev = l .prev; ts = ts; start = l .start; search = l .search; timestamp = timestamp }
+
 -- `rescore`
 unfoldable pub rescore : Vmtf → Vmtf
-rescore l = record {
-  next = l .next;
-  prev = l .prev;
-  ts = renumber (l .next) (length (l .next)) (l .start) (l .ts);
-  start = l .start;
-  search = l .search;
-  timestamp = length (l .next) + 1;
-}
+rescore l = withStamps (renumber (l .next) (length (l .next)) (l .start) (l .ts)) (length (l .next) + 1) l
 
 -- `move_to_front` of a variable that is not at the front: the links around it close, it gets the next stamp and stands before the front
 unfoldable pub relink : ℕ → Vmtf → Vmtf
@@ -119,14 +116,7 @@ relink v l =
 
 -- its end: the next timestamp, or `rescore` after the largest stamp
 unfoldable pub tick : Vmtf → Vmtf
-tick l = cond (eqb (l .timestamp) maxStamp) (rescore l) (record {
-  next = l .next;
-  prev = l .prev;
-  ts = l .ts;
-  start = l .start;
-  search = l .search;
-  timestamp = l .timestamp + 1;
-})
+tick l = cond (eqb (l .timestamp) maxStamp) (rescore l) (withStamps (l .ts) (l .timestamp + 1) l)
 
 -- `move_to_front`: a variable at the front is left as it is
 unfoldable pub moveToFront : ℕ → Vmtf → Vmtf
