@@ -1,11 +1,11 @@
 -- A fresh session in heap mode, as code makes it: it is good, it passes the check, and it is the stage that opens after the clause lines. Assumes nothing.
-use Prim.Native.Nat.{ℕ, zero, suc, _≤_}
-use mathlib.Core.Path.{_≡_, refl, sym, ap, _∙_}
+use Prim.Native.Nat.{ℕ, _≤_}
+use mathlib.Core.Path.{_≡_, refl, ap, _∙_}
 use mathlib.Core.Bool.{Bool, true}
-use mathlib.Core.List.{List, _∷_, _++_}
-use native.Mathlib.Omega.{arith}
+use mathlib.Core.List.{List}
 use lib.Ieee.{Float}
-use lib.ListN.{length, take, drop, replicate, length-append, length-replicate, take-append-drop}
+use lib.ListN.{length, take, replicate, length-replicate}
+use Rattle.laws.specs.Parts.{take-replicate}
 use Rattle.lit.specs.Numbers.{NONE, unassigned, maxVars}
 use Rattle.formula.specs.Good.{GoodClauses}
 use Rattle.activity.specs.Doubles.{zeroActivity}
@@ -56,23 +56,13 @@ blank m l = record {
   decision-blank = set-up m _ l;
 }
 
--- a list whose part was exchanged for another of its length
-pub rejoined : {A : Type 0} (n : ℕ) (l m : List A) → length m ≡ length (take n l) → length (m ++ drop n l) ≡ length l
-rejoined n l m e = length-append m (drop n l) ∙ rw e (sym (length-append (take n l) (drop n l)) ∙ ap length (take-append-drop n l))
-
-module _ {A : Type 0} (x : A) where
-  take-replicate : (n m : ℕ) → n ≤ m → take n (replicate m x) ≡ replicate n x
-  take-replicate zero m l = refl
-  take-replicate (suc n) zero l = absurd (omega arith)
-  take-replicate (suc n) (suc m) l = ap (λ (t : List A). x ∷ t) (take-replicate n m (omega arith))
-
-  pub part-filled : {n : ℕ} {l : List A} → Filled n x l → take n l ≡ replicate n x
-  part-filled {n} {l} f = ap (take n) (f .same) ∙ take-replicate n (length l) (f .long)
+pub part-filled : {A : Type 0} {n : ℕ} {x : A} {l : List A} → Filled n x l → take n l ≡ replicate n x
+part-filled {n = n} {x = x} {l = l} f = ap (take n) (f .same) ∙ take-replicate x n (length l) (f .long)
 
 pub part-fresh : {n : ℕ} {values levels reasons trail opened : List ℕ} {activity : List Float} {heap : List ℕ} {decision : List Bool} → Blank n values levels reasons trail opened activity heap decision
     → trailOf (take n values) (take n levels) (take n reasons) (take n trail) (take n opened) atStart ≡ freshTrail n
 unfolding freshTrail
-part-fresh b = rw (part-filled _ (b .values-blank), part-filled _ (b .levels-blank), part-filled _ (b .reasons-blank), part-filled _ (b .trail-blank), part-filled _ (b .opened-blank))
+part-fresh b = rw (part-filled (b .values-blank), part-filled (b .levels-blank), part-filled (b .reasons-blank), part-filled (b .trail-blank), part-filled (b .opened-blank))
 
 -- members in order, with fresh activities and switches
 pub started-heap : {n k : ℕ} {a : List Float} {d : List Bool} {h p : List ℕ} {s : VsidsState} → a ≡ replicate n zeroActivity → d ≡ replicate n true → k ≡ n

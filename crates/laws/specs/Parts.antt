@@ -1,9 +1,9 @@
 -- Lists put together from parts, as a slice's is when `&mut a[..n]` or `&mut a[n..]` was lent: how long it is and what stands where. Assumes nothing.
-use mathlib.Core.Path.{_≡_, ap, sym, subst, _∙_}
-use mathlib.Core.List.{List, _++_, append-nil}
-use Prim.Native.Nat.{ℕ, _+_, _-_, _<_, _≤_}
+use mathlib.Core.Path.{_≡_, refl, ap, sym, subst, _∙_}
+use mathlib.Core.List.{List, _∷_, _++_, append-nil}
+use Prim.Native.Nat.{ℕ, zero, suc, _+_, _-_, _<_, _≤_}
 use native.Mathlib.Omega.{arith}
-use lib.ListN.{length, getD, take, drop, length-append, length-drop, drop-of-length-le, List·getD-append}
+use lib.ListN.{length, getD, take, drop, replicate, length-append, length-drop, drop-of-length-le, take-append-drop, List·getD-append}
 use lib.Seq.{getD-drop, getD-append-add, take-all, take-at, drop-at}
 
 -- a first part p of n elements
@@ -28,3 +28,13 @@ module _ {A : Type 0} (p : List A) (n : ℕ) (e : length p ≡ n) where
   back-put l r =
       let none : length (drop n l) ≤ length (p ++ drop n l) - n = simp length-append (omega arith) in
       rw (take-at p (drop n l) n e, drop-at p (drop n l) n e, drop-of-length-le (drop n l) none) (ap (λ (z : List A). p ++ z) (append-nil r))
+
+-- a is as long as before once the part that `&mut a[..n]` lent has come back as p
+pub rejoined : {A : Type 0} (n : ℕ) (l p : List A) → length p ≡ length (take n l) → length (p ++ drop n l) ≡ length l
+rejoined n l p e = length-append p (drop n l) ∙ rw e (sym (length-append (take n l) (drop n l)) ∙ ap length (take-append-drop n l))
+
+-- the first part of equal elements
+pub take-replicate : {A : Type 0} (x : A) (n m : ℕ) → n ≤ m → take n (replicate m x) ≡ replicate n x
+take-replicate x zero m l = refl
+take-replicate x (suc n) zero l = absurd (omega arith)
+take-replicate {A} x (suc n) (suc m) l = ap (λ (t : List A). x ∷ t) (take-replicate x n m (omega arith))

@@ -1,10 +1,10 @@
 -- A session made fresh at the end of the clause lines, as code holds it: it is good, it passes its check, and it is the stage that the next line meets. Assumes nothing.
 use Prim.Native.Nat.{ℕ, _≤_}
-use mathlib.Core.Path.{_≡_, refl, sym, ap, _∙_}
+use mathlib.Core.Path.{_≡_, refl}
 use mathlib.Core.Bool.{true}
-use mathlib.Core.List.{List, _++_}
+use mathlib.Core.List.{List}
 use native.Mathlib.Omega.{arith}
-use lib.ListN.{length, take, drop, replicate, length-append, length-replicate, take-append-drop}
+use lib.ListN.{length, replicate, length-replicate}
 use Rattle.lit.specs.Numbers.{NONE, unassigned, maxVars}
 use Rattle.formula.specs.Good.{GoodClauses}
 use Rattle.trail.specs.Trail.{Trail, freshTrail}
@@ -41,10 +41,6 @@ room-in m l = record {
   prev-room = rw (length-replicate m NONE) l;
   ts-room = rw (length-replicate {A = ℕ} m 0) l;
 }
-
--- a list whose part was exchanged for another of its length
-pub rejoined : {A : Type 0} (n : ℕ) (l m : List A) → length m ≡ length (take n l) → length (m ++ drop n l) ≡ length l
-rejoined n l m e = length-append m (drop n l) ∙ rw e (sym (length-append (take n l) (drop n l)) ∙ ap length (take-append-drop n l))
 
 -- the literals of a good clause list are what creation needs
 pub clause-literals : {n : ℕ} {lits ends : List ℕ} → GoodClauses n lits ends → Literals n lits

@@ -4,15 +4,15 @@ use mathlib.Core.Path.{_≡_, refl, sym, ap, _∙_}
 use mathlib.Core.Logic.{_≢_}
 use mathlib.Core.Bool.{Bool, true, cond, not, _&&_, false≢true}
 use mathlib.Core.Option.{none, some}
-use mathlib.Core.List.{List, [], _∷_, _++_, append-nil, append-assoc}
+use mathlib.Core.List.{List, [], _∷_, _++_, append-nil}
 use native.Mathlib.Omega.{arith}
 use native.Mathlib.Numerals.{add-one}
 use native.Mathlib.Nat.{pow-suc}
-use borrow.Author.Tests.{ne-eqb, le-leb, lt-ltb, le-ltb, ltb-true, ltb-false, leb-true, eqb-false}
+use borrow.Author.Tests.{le-leb, lt-ltb, le-ltb, ltb-true, ltb-false, leb-true, eqb-false}
 use borrow.Author.Tests as tests
 use lib.Dec.{eqb, leb, ltb}
 use lib.ListN.{length, getD, set, take, drop, length-append, length-set, List·getD-append}
-use lib.Seq.{append-snoc, sets, sets-eq, set-comm}
+use lib.Seq.{append-snoc, set-comm}
 use Rattle.laws.specs.Tests.{true-or-false, and-left, and-right, and-both}
 use Rattle.lit.specs.Numbers.{NONE}
 use Rattle.text.specs.Text.{newline, splitFrom, split, butLast, lines, occurs, find, all, isDigit, decimal, plain, number, digitsBy, digits, written}
@@ -57,12 +57,6 @@ module _ (b : ℕ) where
   -- counted down: one less behind the first
   pub occurs-next : (bs : List ℕ) → find b bs < length bs → occurs b bs ≡ suc (occurs b (drop (find b bs + 1) bs))
   occurs-next bs h = rw (add-one (find b bs)) (occurs-on bs h)
-
-  -- before the first there is none
-  pub occurs-before : (bs : List ℕ) → occurs b (take (find b bs) bs) ≡ 0
-  unfolding occurs find
-  occurs-before [] = refl
-  occurs-before (c ∷ cs) = true-or-false (eqb c b) (λ e. rw e) (λ e. rw (e, e) (occurs-before cs))
 
 -- the pieces, one by one
 module _ (sep : ℕ) where
@@ -133,18 +127,6 @@ pub written-length : (at : ℕ) (bs l : List ℕ) → length (written at bs l) �
 unfolding written
 written-length at [] l = refl
 written-length at (b ∷ bs) l = written-length (at + 1) bs (set l at b) ∙ length-set l at b
-
-written-sets : (at : ℕ) (bs l : List ℕ) → written at bs l ≡ sets l at bs
-unfolding written
-written-sets at [] l = refl
-written-sets at (b ∷ bs) l = rw (add-one at) (written-sets (suc at) bs (set l at b))
-
-pub written-is : (at : ℕ) (bs l : List ℕ) → at + length bs ≤ length l → written at bs l ≡ take at l ++ (bs ++ drop (at + length bs) l)
-written-is at bs l h = written-sets at bs l ∙ sets-eq bs l at h ∙ append-assoc (take at l) bs (drop (at + length bs) l)
-
-pub written-none : (at : ℕ) (bs l : List ℕ) → bs ≡ [] → written at bs l ≡ l
-unfolding written
-written-none at bs l e = rw e
 
 -- the last byte may be written first
 written-last : (at x : ℕ) (bs l : List ℕ) → written at (bs ++ (x ∷ [])) l ≡ written at bs (set l (at + length bs) x)
@@ -251,18 +233,6 @@ digits-all (suc j) n =
     true-or-false (ltb n 10)
     (λ e. rw e (one-digit n (ltb-true n 10 e)))
     (λ e. rw e (all-append isDigit (digitsBy j (n / 10)) ((48 + n % 10) ∷ []) (digits-all j (n / 10)) (one-digit (n % 10) (omega arith))))
-
--- so no byte below them stands there, as the tab and the newline
-all-free : (b : ℕ) (bs : List ℕ) → b < 48 → all isDigit bs ≡ true → occurs b bs ≡ 0
-unfolding all occurs
-all-free b [] l d = refl
-all-free b (c ∷ cs) l d =
-    let first : isDigit c ≡ true = and-left (isDigit c) (all isDigit cs) d in
-    let low : 48 ≤ c = leb-true 48 c (and-left (leb 48 c) (leb c 57) first) in
-    rw (ne-eqb c b (λ e. omega arith)) (all-free b cs l (and-right (isDigit c) (all isDigit cs) d))
-
-pub digits-free : (b n : ℕ) → b < 48 → occurs b (digits n) ≡ 0
-digits-free b n l = all-free b (digits n) l (digits-all 10 n)
 
 -- the number of the digits is the number
 decimal-append : (v : ℕ) (a b : List ℕ) → decimal v (a ++ b) ≡ decimal (decimal v a) b

@@ -149,16 +149,32 @@ fn covered_ok(values: &[u8], marks: &[bool]) -> bool
     ok
 }
 
-// Whether the trail holds literals of variables that hold, each assigned variable once.
+// Whether the trail holds literals of variables that hold, each assigned variable once. No variable is marked.
+fn check_marked(values: &[u8], trail: &[u32], len: u32, marks: &mut [bool]) -> bool
+    requires { ⌜ len ≤ length (now trail) ⌝ }
+    requires { ⌜ Marked (now trail) 0 (length (now values)) (now marks) ⌝ }
+    ensures { λ r. ⌜ r ≡ (spec.placesOk (now (values .entry)) (now (trail .entry)) len && spec.heldOk (now (values .entry)) (now (trail .entry)) len) ⌝ }
+{
+    if !places_ok(values, trail, len, marks) {
+        return false;
+    }
+    covered_ok(values, marks)
+}
+
+// At most so many variables are few: marks for them are set up sooner.
+const FEW: usize = 64;
+
+// The same, with marks set up for it.
 fn check_places(values: &[u8], trail: &[u32], len: u32) -> bool
     requires { ⌜ (length (now values) ≤ number.maxVars) × (len ≤ length (now trail)) ⌝ }
     ensures { λ r. ⌜ r ≡ (spec.placesOk (now (values .entry)) (now (trail .entry)) len && spec.heldOk (now (values .entry)) (now (trail .entry)) len) ⌝ }
 {
-    let mut marks = [false; lit::MAX_VARS as usize];
-    if !places_ok(values, trail, len, &mut marks) {
-        return false;
+    if values.len() <= FEW {
+        let mut few = [false; FEW];
+        return check_marked(values, trail, len, &mut few);
     }
-    covered_ok(values, &marks)
+    let mut marks = [false; lit::MAX_VARS as usize];
+    check_marked(values, trail, len, &mut marks)
 }
 
 // The level of place i, where l is that of the place before: one more if a level was opened at i.

@@ -78,9 +78,6 @@ get-next-right h g = right-of (h .len) h refl g
 pub chose-right : {n : ℕ} {values : List ℕ} {v : ℕ} {h′ : Vsids} (h : Vsids) → GoodHeap n values h → getNext values h ≡ chose v h′ → Chosen n values h v h′
 chose-right h g e = rw e at (get-next-right h g)
 
-pub nothing-right : {n : ℕ} {values : List ℕ} {h′ : Vsids} (h : Vsids) → GoodHeap n values h → getNext values h ≡ nothing h′ → Emptied n values h h′
-nothing-right h g e = rw e at (get-next-right h g)
-
 -- in activities: the chosen variable's is no lower than any other open variable's, and a parent's no lower than its member's
 pub chosen-highest : {n : ℕ} {values : List ℕ} {v : ℕ} {h h′ : Vsids} → GoodHeap n values h → Chosen n values h v h′
     → (u : ℕ) → u < n → isOpen values (h .decision) u ≡ true → T (le (getD (h .activity) u nan) (getD (h .activity) v nan))

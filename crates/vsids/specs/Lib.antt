@@ -6,4 +6,3 @@ pub mod Scoring
 pub mod Kept
 pub mod Choice
 pub mod Check
-pub mod Cases

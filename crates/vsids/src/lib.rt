@@ -203,7 +203,7 @@ pub fn turn_off_decision_for_idx(decision: &mut [bool], var: u32)
     decision[var as usize] = false;
 }
 
-// Divides the step by the decay.
+// Multiplies the step by the rounded quotient 1 / decay.
 pub fn decay_var_inc(s: VsidsState) -> VsidsState
     ensures { λ r. ⌜ ((a : List Float) (h p : List ℕ) (d : List Bool) → vsidsOf a h p d r ≡ spec.decayVarInc (vsidsOf a h p d s)) ⌝ }
 {

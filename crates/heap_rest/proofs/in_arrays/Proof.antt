@@ -1,7 +1,8 @@
 -- `heap_rest::in_arrays` meets its contract: the parts of the arrays that are lent have n elements, and are fresh.
 use mathlib.Core.Path.{sym}
 use lib.Seq.{length-take-le}
-use Rattle.heap_rest.specs.Start.{rejoined, part-filled, part-fresh}
+use Rattle.laws.specs.Parts.{rejoined}
+use Rattle.heap_rest.specs.Start.{part-filled, part-fresh}
 use Rattle.heap_rest.proofs.in_arrays.Statement.{statement}
 use Rattle.heap_rest.proofs.in_arrays.Tie as tie
 
@@ -39,7 +40,7 @@ heap-session-requires c κs =
       (s .pre .0 .0, s .pre .0 .1, s .pre .0 .2),
       (
         part-fresh blank,
-        (part-filled _ (blank .activity-blank), length-take-le (s .args .n) _ (blank .heap-long), length-take-le (s .args .n) _ (s .pre .0 .3), part-filled _ (blank .decision-blank)),
+        (part-filled (blank .activity-blank), length-take-le (s .args .n) _ (blank .heap-long), length-take-le (s .args .n) _ (s .pre .0 .3), part-filled (blank .decision-blank)),
       ),
     )
 

@@ -1,7 +1,7 @@
 -- `list_rest::in_arrays` meets its contract: the parts of the arrays that are lent have n elements.
 use mathlib.Core.Path.{sym}
 use lib.Seq.{length-take-le}
-use Rattle.list_rest.specs.Start.{rejoined}
+use Rattle.laws.specs.Parts.{rejoined}
 use Rattle.list_rest.proofs.in_arrays.Statement.{statement}
 use Rattle.list_rest.proofs.in_arrays.Tie as tie
 
