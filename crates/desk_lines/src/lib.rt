@@ -126,7 +126,7 @@ fn lines_behind(
 }
 
 // At most so many variables are few: their positions are set up sooner.
-const FEW: u32 = 256;
+const FEW: u32 = 320;
 
 // The lines behind the first in heap mode, on positions set up for them.
 fn own_positions(sheet: &[u8], out: &mut [u8], heap: bool, n: u32, p: Place) -> usize

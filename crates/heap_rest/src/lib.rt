@@ -168,8 +168,8 @@ fn in_64(
     )
 }
 
-// The same with at most 256.
-fn in_256(
+// The same with at most 320.
+fn in_320(
     sheet: &[u8],
     out: &mut [u8],
     positions: &mut [u32],
@@ -178,17 +178,17 @@ fn in_256(
     ends: &[u32],
     p: Place,
 ) -> usize
-    requires { ⌜ Room (now sheet) p (now out) × (n ≤ 256) × GoodClauses n (now lits) (now ends) × (n ≤ length (now positions)) ⌝ }
+    requires { ⌜ Room (now sheet) p (now out) × (n ≤ 320) × GoodClauses n (now lits) (now ends) × (n ≤ length (now positions)) ⌝ }
     ensures { λ r. ⌜ Ended (now (sheet .entry)) p (spec.opened vsids n (now (lits .entry)) (now (ends .entry))) (now (out .entry)) r (now (out .exit)) ⌝ }
 {
-    let mut values = [UNASSIGNED; 256];
-    let mut levels = [NONE; 256];
-    let mut reasons = [NONE; 256];
-    let mut trail = [NONE; 256];
-    let mut opened = [NONE; 256];
-    let mut activity = [ZERO_ACTIVITY; 256];
-    let mut heap = [NONE; 256];
-    let mut decision = [true; 256];
+    let mut values = [UNASSIGNED; 320];
+    let mut levels = [NONE; 320];
+    let mut reasons = [NONE; 320];
+    let mut trail = [NONE; 320];
+    let mut opened = [NONE; 320];
+    let mut activity = [ZERO_ACTIVITY; 320];
+    let mut heap = [NONE; 320];
+    let mut decision = [true; 320];
     in_arrays(
         sheet,
         out,
@@ -208,8 +208,8 @@ fn in_256(
     )
 }
 
-// The same with at most 1,024.
-fn in_1024(
+// The same with at most 1,152.
+fn in_1152(
     sheet: &[u8],
     out: &mut [u8],
     positions: &mut [u32],
@@ -218,17 +218,17 @@ fn in_1024(
     ends: &[u32],
     p: Place,
 ) -> usize
-    requires { ⌜ Room (now sheet) p (now out) × (n ≤ 1024) × GoodClauses n (now lits) (now ends) × (n ≤ length (now positions)) ⌝ }
+    requires { ⌜ Room (now sheet) p (now out) × (n ≤ 1152) × GoodClauses n (now lits) (now ends) × (n ≤ length (now positions)) ⌝ }
     ensures { λ r. ⌜ Ended (now (sheet .entry)) p (spec.opened vsids n (now (lits .entry)) (now (ends .entry))) (now (out .entry)) r (now (out .exit)) ⌝ }
 {
-    let mut values = [UNASSIGNED; 1024];
-    let mut levels = [NONE; 1024];
-    let mut reasons = [NONE; 1024];
-    let mut trail = [NONE; 1024];
-    let mut opened = [NONE; 1024];
-    let mut activity = [ZERO_ACTIVITY; 1024];
-    let mut heap = [NONE; 1024];
-    let mut decision = [true; 1024];
+    let mut values = [UNASSIGNED; 1152];
+    let mut levels = [NONE; 1152];
+    let mut reasons = [NONE; 1152];
+    let mut trail = [NONE; 1152];
+    let mut opened = [NONE; 1152];
+    let mut activity = [ZERO_ACTIVITY; 1152];
+    let mut heap = [NONE; 1152];
+    let mut decision = [true; 1152];
     in_arrays(
         sheet,
         out,
@@ -307,11 +307,11 @@ pub fn rest(
     if n <= 64 {
         return in_64(sheet, out, positions, n, lits, ends, p);
     }
-    if n <= 256 {
-        return in_256(sheet, out, positions, n, lits, ends, p);
+    if n <= 320 {
+        return in_320(sheet, out, positions, n, lits, ends, p);
     }
-    if n <= 1024 {
-        return in_1024(sheet, out, positions, n, lits, ends, p);
+    if n <= 1152 {
+        return in_1152(sheet, out, positions, n, lits, ends, p);
     }
     in_all(sheet, out, positions, n, lits, ends, p)
 }
