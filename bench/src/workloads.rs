@@ -129,16 +129,27 @@ pub fn uses() -> Vec<Workload> {
     ]
 }
 
-/// The same kind of sheet for more and more variables.
+/// A session made with as many clauses as variables.
+fn made_with_clauses(num_vars: usize, mode: &str) -> String {
+    let mut rng = Rng::new(6);
+    let clauses: String = (0..num_vars).map(|_| numbers("c", 4, 2 * num_vars, &mut rng)).collect();
+    heading(num_vars, mode) + &clauses + "g\t1\n"
+}
+
+/// The same kind of sheet for more and more variables. The proved chooser sets up arrays of a few sizes: the sizes just above them cost
+/// it most.
 pub fn growth() -> Vec<Workload> {
     let sizes = [64, 256, 1024, 2048];
+    let made = [3, 16, 64, 65, 256, 321, 1024, 1153, 2048];
     let mut all = Vec::new();
-    all.extend(sizes.map(|n| Workload::new(format!("heap made, N = {n}"), creation(n, "vsids", false))));
-    all.extend(sizes.map(|n| Workload::new(format!("list made, N = {n}"), creation(n, "vmtf", false))));
-    all.extend(sizes.map(|n| Workload::new(format!("heap session, N = {n}"), heap_session(n, MAX_SHEET))));
-    all.extend(sizes.map(|n| Workload::new(format!("list session, N = {n}"), list_session(n, MAX_SHEET))));
-    all.extend(
-        sizes.map(|n| Workload::new(format!("one group of N, N = {n}"), heading(n, "vmtf") + &numbers("f", n, n, &mut Rng::new(7)))),
-    );
+    let mut add = |name: &str, sizes: &[usize], sheet: &dyn Fn(usize) -> String| {
+        all.extend(sizes.iter().map(|&n| Workload::new(format!("{name}, N = {n}"), sheet(n))));
+    };
+    add("heap made", &made, &|n| creation(n, "vsids", false));
+    add("list made", &made, &|n| creation(n, "vmtf", false));
+    add("list made, N clauses", &[3, 16, 64, 256, 1024], &|n| made_with_clauses(n, "vmtf"));
+    add("heap session", &sizes, &|n| heap_session(n, MAX_SHEET));
+    add("list session", &sizes, &|n| list_session(n, MAX_SHEET));
+    add("one group of N", &[3, 16, 64, 256, 1024, 2048], &|n| heading(n, "vmtf") + &numbers("f", n, n, &mut Rng::new(7)));
     all
 }
