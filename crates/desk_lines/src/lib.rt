@@ -125,7 +125,7 @@ fn lines_behind(
     session_lines(sheet, out, positions, heap, n, &none, &none, p)
 }
 
-// At most so many variables are few: their positions are set up sooner.
+// At most so many variables have a short array of positions.
 const FEW: u32 = 320;
 
 // The lines behind the first in heap mode, on positions set up for them.

@@ -99,6 +99,10 @@ module _ (b : ℕ) where
       eq-eqb b (letter k) (all-its .at (λ o. n (sym same ∙ o)) ∙ ap letter same))
       (λ t. eq-eqb (kindNumber (kindOf b)) (kindNumber k) (ap (λ (x : ℕ). kindNumber (kindOf x)) (eqb-true b (letter k) t) ∙ ap kindNumber e))
 
+pub tells-clause : (b : ℕ) → eqb (kindNumber (kindOf b)) 12 ≡ eqb b 99
+unfolding kindOf
+tells-clause b = number-tells b isClause refl (λ e. let z : _≡_ {A = ℕ} 0 1 = cc in omega arith)
+
 pub tells-first : (b : ℕ) → eqb (kindNumber (kindOf b)) 13 ≡ eqb b 110
 unfolding kindOf
 tells-first b = number-tells b isFirst refl (λ e. let z : _≡_ {A = ℕ} 0 1 = cc in omega arith)

@@ -18,6 +18,7 @@ use lit::MAX_GROUP;
 use lit::NONE;
 use table::BUMPS;
 use table::BUMPS_REASON;
+use table::CLAUSE;
 use table::DECAYS;
 use table::DECIDES;
 use table::ENQUEUES;
@@ -54,9 +55,6 @@ pub enum First {
     Bad,
 }
 
-// Clause lines begin with `c`. There are many: this test is faster than the table of all first bytes.
-const CLAUSE_LETTER: u8 = 99;
-
 // Whether a line begins as clause lines do.
 pub fn begins_clause(line: &[u8]) -> bool
     ensures { λ r. ⌜ r ≡ spec.beginsClause (now (line .entry)) ⌝ }
@@ -64,7 +62,7 @@ pub fn begins_clause(line: &[u8]) -> bool
     if line.len() == 0 {
         return false;
     }
-    line[0] == CLAUSE_LETTER
+    kind(line[0]) == CLAUSE
 }
 
 // Whether the bytes of a field are these.
@@ -259,7 +257,7 @@ pub fn read_call(line: &[u8]) -> Read
     }
 }
 
-// Lengths of scratch for a group: each variable takes two bytes of its line at least, so a short line needs little, and that is set up sooner.
+// Lengths of scratch for a group: each variable takes two bytes of its line at least, so a short line needs little.
 // `MANY` is enough for any line.
 pub const FEW: usize = 64;
 

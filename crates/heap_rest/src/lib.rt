@@ -248,7 +248,7 @@ fn in_1152(
     )
 }
 
-// The same with any number of variables.
+// The same with at most 2,048.
 fn in_all(
     sheet: &[u8],
     out: &mut [u8],

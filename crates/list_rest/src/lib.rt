@@ -26,7 +26,7 @@ pub struct Started {
     pub good: bool,
 }
 
-// The states of a fresh session in slices of length n, for m clauses, checked. Creation takes the levels and the reasons as scratch, before the trail fills them.
+// Makes a fresh session in slices of length n for m clauses, and checks it. The levels and the reasons serve as scratch.
 fn start(
     n: u32,
     m: u32,
@@ -224,7 +224,7 @@ fn in_256(sheet: &[u8], out: &mut [u8], n: u32, lits: &[u32], ends: &[u32], p: P
     )
 }
 
-// The same with any number of variables.
+// The same with at most 2,048.
 fn in_all(sheet: &[u8], out: &mut [u8], n: u32, lits: &[u32], ends: &[u32], p: Place) -> usize
     requires { ⌜ Room (now sheet) p (now out) × (n ≤ number.maxVars) × GoodClauses n (now lits) (now ends) ⌝ }
     ensures { λ r. ⌜ Ended (now (sheet .entry)) p (spec.opened vmtf n (now (lits .entry)) (now (ends .entry))) (now (out .entry)) r (now (out .exit)) ⌝ }

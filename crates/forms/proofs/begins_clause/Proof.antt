@@ -1,5 +1,5 @@
--- `forms::begins_clause` meets its contract.
-use mathlib.Core.Path.{_≡_, refl}
+-- `forms::begins_clause` meets its contract: the table's number tells the letter.
+use mathlib.Core.Path.{_≡_, refl, ap, _∙_}
 use mathlib.Core.Bool.{false}
 use mathlib.Core.List.{List, [], _∷_}
 use Prim.Native.Nat.{ℕ}
@@ -8,6 +8,7 @@ use borrow.Author.Needs.{needs}
 use lib.Dec.{eqb}
 use lib.ListN.{length, getD}
 use Rattle.forms.specs.Forms.{beginsClause}
+use Rattle.forms.specs.Kinds.{tells-clause}
 use Rattle.forms.proofs.begins_clause.Statement.{statement}
 use Rattle.forms.proofs.begins_clause.Tie as tie
 
@@ -22,10 +23,12 @@ first [] n = absurd (n refl)
 first (b ∷ bs) n = refl
 
 returns : tie.Need-returns
-returns c = empty (c .before .args .line .now) (c .if1 .taken)
+returns c = empty (c .before .before .args .line .now) (c .if1 .taken)
 
 returns-2 : tie.Need-returns-2
-returns-2 c = first (c .before .before .args .line .now) (c .before .if1 .left)
+returns-2 c =
+    let line = c .before .before .before .before .args .line .now in
+    ap (λ (k : ℕ). eqb k 12) (c .kind .ensures) ∙ tells-clause (getD line 0 0) ∙ first line (c .before .before .if1 .left)
 
 pub begins-clause-spec : {M : Type 1} → statement M
-begins-clause-spec = tie.close (tie.spec returns (λ c. search needs) returns-2)
+begins-clause-spec = tie.close (tie.spec returns (λ c. search needs) (λ c κs. search needs) returns-2)
