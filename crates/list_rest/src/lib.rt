@@ -162,19 +162,19 @@ fn in_arrays(
     )
 }
 
-// The rest of a run with at most 64 variables: setting up long arrays costs more than a short run.
-fn in_64(sheet: &[u8], out: &mut [u8], n: u32, lits: &[u32], ends: &[u32], p: Place) -> usize
-    requires { ⌜ Room (now sheet) p (now out) × (n ≤ 64) × GoodClauses n (now lits) (now ends) ⌝ }
+// The rest of a run with at most 32 variables: setting up long arrays costs more than a short run.
+fn in_32(sheet: &[u8], out: &mut [u8], n: u32, lits: &[u32], ends: &[u32], p: Place) -> usize
+    requires { ⌜ Room (now sheet) p (now out) × (n ≤ 32) × GoodClauses n (now lits) (now ends) ⌝ }
     ensures { λ r. ⌜ Ended (now (sheet .entry)) p (spec.opened vmtf n (now (lits .entry)) (now (ends .entry))) (now (out .entry)) r (now (out .exit)) ⌝ }
 {
-    let mut values = [UNASSIGNED; 64];
-    let mut levels = [NONE; 64];
-    let mut reasons = [NONE; 64];
-    let mut trail = [NONE; 64];
-    let mut opened = [NONE; 64];
-    let mut next = [NONE; 64];
-    let mut prev = [NONE; 64];
-    let mut ts = [0u64; 64];
+    let mut values = [UNASSIGNED; 32];
+    let mut levels = [NONE; 32];
+    let mut reasons = [NONE; 32];
+    let mut trail = [NONE; 32];
+    let mut opened = [NONE; 32];
+    let mut next = [NONE; 32];
+    let mut prev = [NONE; 32];
+    let mut ts = [0u64; 32];
     in_arrays(
         sheet,
         out,
@@ -263,8 +263,8 @@ pub fn rest(sheet: &[u8], out: &mut [u8], n: u32, lits: &[u32], ends: &[u32], p:
     if p.left == 0 {
         return p.at;
     }
-    if n <= 64 {
-        return in_64(sheet, out, n, lits, ends, p);
+    if n <= 32 {
+        return in_32(sheet, out, n, lits, ends, p);
     }
     if n <= 256 {
         return in_256(sheet, out, n, lits, ends, p);
