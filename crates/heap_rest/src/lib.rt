@@ -14,7 +14,7 @@ ghost use Rattle.sheet.specs.Running.{Room, Ended};
 ghost use Rattle.heap_rest.specs.Start.{atStart, Blank};
 use activity::ZERO_ACTIVITY;
 use heap_calls::HeapState;
-use heap_run::HeapPlace;
+use heap_line::HeapPlace;
 use lit::MAX_VARS;
 use lit::NONE;
 use lit::UNASSIGNED;

@@ -4,7 +4,7 @@ use native.Mathlib.Omega.{arith}
 use lib.ListN.{length}
 use Rattle.heap_calls.specs.Memory.{sessionOf}
 use Rattle.sheet.specs.SessionLines.{along-none, along-more, along-over}
-use Rattle.heap_run.specs.Lines.{HeapAlong}
+use Rattle.heap_line.specs.Lines.{HeapAlong}
 use Rattle.heap_run.proofs.heap_lines.Statement.{statement}
 use Rattle.heap_run.proofs.heap_lines.Tie as tie
 

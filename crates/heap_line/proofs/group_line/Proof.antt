@@ -1,8 +1,8 @@
--- `heap_run::group_line` meets its contract: a short line's group fits in the short scratch, any group in the long one.
+-- `heap_line::group_line` meets its contract: a short line's group fits in the short scratch, any group in the long one.
 use native.Mathlib.Omega.{arith}
 use borrow.Author.Needs.{needs}
-use Rattle.heap_run.proofs.group_line.Statement.{statement}
-use Rattle.heap_run.proofs.group_line.Tie as tie
+use Rattle.heap_line.proofs.group_line.Statement.{statement}
+use Rattle.heap_line.proofs.group_line.Tie as tie
 
 group-with-requires : tie.Need-group-with-requires
 group-with-requires c κs = record { fits = λ k few short. omega (arith, c .before .if1 .taken) }

@@ -1,10 +1,10 @@
--- `heap_run::group_with` meets its contract: the group that was read is answered; a line that is none is refused.
+-- `heap_line::group_with` meets its contract: the group that was read is answered; a line that is none is refused.
 use mathlib.Core.Path.{sym}
 use lib.Seq.{length-take-le}
 use Rattle.sheet.specs.Called.{group-within, group-refused, group-answered}
 use borrow.Author.Needs.{needs}
-use Rattle.heap_run.proofs.group_with.Statement.{statement}
-use Rattle.heap_run.proofs.group_with.Tie as tie
+use Rattle.heap_line.proofs.group_with.Statement.{statement}
+use Rattle.heap_line.proofs.group_with.Tie as tie
 
 slice-reshare-prefix-group : tie.Need-slice-reshare-prefix-group
 slice-reshare-prefix-group c = group-within (c .before .before .before .before .before .read-group .ensures) (c .before .k .given .1)

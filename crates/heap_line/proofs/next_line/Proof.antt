@@ -1,14 +1,14 @@
--- `heap_run::next_line` meets its contract: the line is answered, and the run goes on behind it.
+-- `heap_line::next_line` meets its contract: the line is answered, and the run goes on behind it.
 use Prim.Native.Nat.{ℕ, _+_}
 use mathlib.Core.Path.{_≡_, ap, _∙_}
 use native.Mathlib.Omega.{arith}
 use Rattle.sheet.specs.Running.{lineLength, after}
 use Rattle.sheet.specs.Steps.{line-length, line-part, line-inside}
 use Rattle.sheet.specs.SessionLines.{line-fits, same-called}
-use Rattle.heap_run.specs.Lines.{heap-one}
+use Rattle.heap_line.specs.Lines.{heap-one}
 use borrow.Author.Needs.{needs}
-use Rattle.heap_run.proofs.next_line.Statement.{statement}
-use Rattle.heap_run.proofs.next_line.Tie as tie
+use Rattle.heap_line.proofs.next_line.Statement.{statement}
+use Rattle.heap_line.proofs.next_line.Tie as tie
 
 add-end : tie.Need-add-end
 add-end c =

@@ -1,9 +1,9 @@
--- `heap_run::line_call` meets its contract: the call that was read is answered by the step; a line that is none is refused.
+-- `heap_line::line_call` meets its contract: the call that was read is answered by the step; a line that is none is refused.
 use mathlib.Core.Path.{refl}
 use Rattle.sheet.specs.Called.{line-refused, line-answered, line-group}
 use borrow.Author.Needs.{needs}
-use Rattle.heap_run.proofs.line_call.Statement.{statement}
-use Rattle.heap_run.proofs.line_call.Tie as tie
+use Rattle.heap_line.proofs.line_call.Statement.{statement}
+use Rattle.heap_line.proofs.line_call.Tie as tie
 
 returns : tie.Need-returns
 returns c = rw (c .refuse .ensures) (line-refused (c .before .before .before .read-call .ensures) (c .before .enum-told .given .1))

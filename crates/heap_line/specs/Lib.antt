@@ -1,0 +1,2 @@
+-- A line of a session in heap mode.
+pub mod Lines

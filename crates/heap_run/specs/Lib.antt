@@ -1,2 +1,0 @@
--- The lines of a session in heap mode.
-pub mod Lines
