@@ -9,16 +9,10 @@ use lib.Ieee.{Float}
 -- bump, insert, switch off and bump reason take a variable, decide a polarity, enqueue a code and a reason, learn-unit a code,
 -- going back a level, and a group its variables
 pub data Call : Type 0 where
-  bump : ℕ → Call
+  bump insert switchOff decide learnUnit goBack bumpReason : ℕ → Call
   decay : Call
   setDecay : Float → Call
-  insert : ℕ → Call
-  switchOff : ℕ → Call
-  decide : ℕ → Call
   enqueue : ℕ → ℕ → Call
-  learnUnit : ℕ → Call
-  goBack : ℕ → Call
-  bumpReason : ℕ → Call
   group : List ℕ → Call
 
 -- 'Every call returns 0 with its reply, or the first of these with reply NONE.' The reply `none` is that NONE, in a sheet `-`

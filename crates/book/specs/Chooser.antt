@@ -15,10 +15,9 @@ use Rattle.book.specs.Book.{without}
 -- the operations that only move a chooser's order: `bump_variable`, `decay_var_inc`, `set_var_decay`,
 -- `bump_reason_literals` by the variable's reason, and `bump_vec_of_vars`
 pub data Tune : Type 0 where
-  bumpVariable : ℕ → Tune
+  bumpVariable bumpReasonLiterals : ℕ → Tune
   decayVarInc : Tune
   setVarDecay : Float → Tune
-  bumpReasonLiterals : ℕ → Tune
   bumpVecOfVars : List ℕ → Tune
 
 -- the tests that refusals 8 and 10 make of arguments; for 12 it is `goodDecay`. 8, for a group: every variable is below n

@@ -45,26 +45,10 @@ pub record Records : Type 0 where
 
 -- those of the memory t, and those in the book b
 unfoldable pub recordsOf : Trail → Records
-recordsOf t = record {
-  values = t .values;
-  reasons = t .reasons;
-  trail = take (t .len) (t .trail);
-  len = t .len;
-  opened = take (t .level) (t .opened);
-  level = t .level;
-  levels = assignedLevels (t .values) (t .levels);
-}
+recordsOf t = record { values = t .values; reasons = t .reasons; trail = take (t .len) (t .trail); len = t .len; opened = take (t .level) (t .opened); level = t .level; levels = assignedLevels (t .values) (t .levels) }
 
 unfoldable pub recordsIn : ℕ → Book → Records
-recordsIn n b = record {
-  values = valuesOf n b;
-  reasons = reasonsOf n b;
-  trail = codes b;
-  len = length b;
-  opened = openings b;
-  level = presentLevel b;
-  levels = levelsOf n b;
-}
+recordsIn n b = record { values = valuesOf n b; reasons = reasonsOf n b; trail = codes b; len = length b; opened = openings b; level = presentLevel b; levels = levelsOf n b }
 
 -- 'by the book as it then stood, no switched-on variable is unassigned'
 abbrev pub SettledBy : ℕ → Bool → List Line → Type 0

@@ -41,16 +41,7 @@ nextOf (vsids.nothing h) = nothing h
 
 -- for n variables and the clause list
 abbrev pub heapOps : ℕ → List ℕ → List ℕ → Operations
-heapOps n lits ends = record {
-  State = Vsids;
-  switches = true;
-  start = vsids.new n;
-  tune = tune lits ends;
-  insert = vsids.insert;
-  offer = vsids.insert;
-  turnOff = vsids.turnOff;
-  getNext = λ values h. nextOf (vsids.getNext values h);
-}
+heapOps n lits ends = record { State = Vsids; switches = true; start = vsids.new n; tune = tune lits ends; insert = vsids.insert; offer = vsids.insert; turnOff = vsids.turnOff; getNext = λ values h. nextOf (vsids.getNext values h) }
 
 -- the heap is good for the values, and its switches are these
 pub record HeapOk (n : ℕ) (values : List ℕ) (on : ℕ → Bool) (h : Vsids) : Type 0 where

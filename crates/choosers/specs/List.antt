@@ -37,16 +37,7 @@ nextOf l found.Stuck = stuck
 
 -- for n variables and the literals of all clauses
 abbrev pub listOps : ℕ → List ℕ → Operations
-listOps n lits = record {
-  State = Vmtf;
-  switches = false;
-  start = vmtf.new n lits;
-  tune = tune;
-  insert = vmtf.insert;
-  offer = vmtf.insert;
-  turnOff = λ v l. l;
-  getNext = λ values l. nextOf l (vmtf.getNext values l);
-}
+listOps n lits = record { State = Vmtf; switches = false; start = vmtf.new n lits; tune = tune; insert = vmtf.insert; offer = vmtf.insert; turnOff = λ v l. l; getNext = λ values l. nextOf l (vmtf.getNext values l) }
 
 -- the list is good, in some order, and every variable counts
 pub record ListOk (n : ℕ) (values : List ℕ) (on : ℕ → Bool) (l : Vmtf) : Type 0 where

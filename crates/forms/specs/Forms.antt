@@ -12,20 +12,8 @@ use Rattle.text.specs.Text.{fields, number, pattern}
 
 -- what a line's first byte says that it is
 pub data Kind : Type 0 where
-  bumps : Kind
-  decays : Kind
-  setsDecay : Kind
-  inserts : Kind
-  switchesOff : Kind
-  decides : Kind
-  enqueues : Kind
-  learnsUnit : Kind
-  goesBack : Kind
-  bumpsReason : Kind
-  movesGroup : Kind
-  isClause : Kind
-  isFirst : Kind
-  isOther : Kind
+  bumps decays setsDecay inserts switchesOff decides enqueues learnsUnit goesBack bumpsReason movesGroup : Kind
+  isClause isFirst isOther : Kind
 
 -- the rule of the table: the letters b, y, w, i, o, g, e, u, k, r, f, c and n
 unfoldable pub kindOf : ℕ → Kind
@@ -128,8 +116,7 @@ codesIn line = lettered (λ b fs. cond (eqb b 99) (numbers fs) none) (fields lin
 
 -- 'First line: `n`, N, `vsids` or `vmtf`.'
 pub data Mode : Type 0 where
-  vsids : Mode
-  vmtf : Mode
+  vsids vmtf : Mode
 
 pub record Opening : Type 0 where
   pub vars : ℕ

@@ -10,16 +10,7 @@ use Rattle.trail.specs.declared.TrailState.{TrailState}
 
 -- the slices' contents and the counts, as one record
 abbrev pub trailOf : List ℕ → List ℕ → List ℕ → List ℕ → List ℕ → TrailState → Trail
-trailOf values levels reasons trail opened s = record {
-  values = values;
-  levels = levels;
-  reasons = reasons;
-  trail = trail;
-  opened = opened;
-  len = s .len;
-  level = s .level;
-  curr = s .«curr_i»;
-}
+trailOf values levels reasons trail opened s = record { values = values; levels = levels; reasons = reasons; trail = trail; opened = opened; len = s .len; level = s .level; curr = s .«curr_i» }
 
 -- a place for each of n variables in every list
 pub record Lengths (n : ℕ) (values levels reasons trail opened : List ℕ) : Type 0 where

@@ -23,67 +23,44 @@ pub record Trail : Type 0 where
 
 -- `Trail::new`
 unfoldable pub freshTrail : ℕ → Trail
-freshTrail n = record {
-  values = replicate n unassigned;
-  levels = replicate n NONE;
-  reasons = replicate n NONE;
-  trail = replicate n NONE;
-  opened = replicate n NONE;
-  len = 0;
-  level = 0;
-  curr = 0;
-}
+freshTrail n = record { values = replicate n unassigned; levels = replicate n NONE; reasons = replicate n NONE; trail = replicate n NONE; opened = replicate n NONE; len = 0; level = 0; curr = 0 }
+
+-- the same trail with these values, levels and reasons; with these codes, so many in use; with these opened levels, this level and `curr_i`
+abbrev withVars : List ℕ → List ℕ → List ℕ → Trail → Trail
+withVars values levels reasons t = record { values = values; levels = levels; reasons = reasons; trail = t .trail; opened = t .opened; len = t .len; level = t .level; curr = t .curr }
+
+abbrev withCodes : List ℕ → ℕ → Trail → Trail
+withCodes trail len t = record { values = t .values; levels = t .levels; reasons = t .reasons; trail = trail; opened = t .opened; len = len; level = t .level; curr = t .curr }
+
+abbrev withLevels : List ℕ → ℕ → ℕ → Trail → Trail
+withLevels opened level curr t = record { values = t .values; levels = t .levels; reasons = t .reasons; trail = t .trail; opened = opened; len = t .len; level = level; curr = curr }
 
 -- `enq_assignment`
 unfoldable pub enqAssignment : ℕ → ℕ → Trail → Trail
-enqAssignment code reason t = record {
-  values = set (t .values) (index code) (polarity code);
-  levels = set (t .levels) (index code) (t .level);
-  reasons = set (t .reasons) (index code) reason;
-  trail = set (t .trail) (t .len) code;
-  opened = t .opened;
-  len = t .len + 1;
-  level = t .level;
-  curr = t .curr;
-}
+enqAssignment code reason t =
+    withVars (set (t .values) (index code) (polarity code)) (set (t .levels) (index code) (t .level)) (set (t .reasons) (index code) reason)
+    (withCodes (set (t .trail) (t .len) code) (t .len + 1) t)
 
 -- `enq_decision`, with the polarity of the caller. It leaves the reasons alone
 unfoldable pub enqDecision : ℕ → ℕ → Trail → Trail
-enqDecision v p t = record {
-  values = set (t .values) v p;
-  levels = set (t .levels) v (t .level + 1);
-  reasons = t .reasons;
-  trail = set (t .trail) (t .len) (new v p);
-  opened = set (t .opened) (t .level) (t .len);
-  len = t .len + 1;
-  level = t .level + 1;
-  curr = t .curr;
-}
+enqDecision v p t =
+    withVars (set (t .values) v p) (set (t .levels) v (t .level + 1)) (t .reasons)
+    (withCodes (set (t .trail) (t .len) (new v p)) (t .len + 1)
+    (withLevels (set (t .opened) (t .level) (t .len)) (t .level + 1) (t .curr) t))
 
 -- the variable that `backstep` takes off the trail, and what it leaves. The level of the variable stays, unread
 abbrev pub last : Trail → ℕ
 last t = index (getD (t .trail) (t .len - 1) 0)
 
 unfoldable pub backstep : Trail → Trail
-backstep t = record {
-  values = set (t .values) (last t) unassigned;
-  levels = t .levels;
-  reasons = set (t .reasons) (last t) NONE;
-  trail = set (t .trail) (t .len - 1) NONE;
-  opened = t .opened;
-  len = t .len - 1;
-  level = t .level;
-  curr = t .curr;
-}
+backstep t =
+    withVars (set (t .values) (last t) unassigned) (t .levels) (set (t .reasons) (last t) NONE)
+    (withCodes (set (t .trail) (t .len - 1) NONE) (t .len - 1) t)
 
 -- the first loop of `backtrack_to`: k steps
 unfoldable pub backsteps : ℕ → Trail → Trail
 backsteps zero t = t
 backsteps (suc k) t = backsteps k (backstep t)
-
--- the same trail with these opened levels, this level and this `curr_i`
-abbrev withLevels : List ℕ → ℕ → ℕ → Trail → Trail
-withLevels opened level curr t = record { values = t .values; levels = t .levels; reasons = t .reasons; trail = t .trail; opened = opened; len = t .len; level = level; curr = curr }
 
 -- its second loop: k levels less
 unfoldable pub closeLevels : ℕ → Trail → Trail

@@ -27,14 +27,7 @@ pub record Vmtf : Type 0 where
   pub timestamp : ℕ
 
 abbrev pub vmtfOf : List ℕ → List ℕ → List ℕ → VmtfState → Vmtf
-vmtfOf next prev ts s = record {
-  next = next;
-  prev = prev;
-  ts = ts;
-  start = s .start;
-  search = s .search;
-  timestamp = s .timestamp;
-}
+vmtfOf next prev ts s = record { next = next; prev = prev; ts = ts; start = s .start; search = s .search; timestamp = s .timestamp }
 
 -- `usize::MAX` of the source as a stamp, in 64 bits
 abbrev pub maxStamp : ℕ
@@ -53,16 +46,16 @@ litOrder n codes = sortReverse (countLits (replicate n 0) codes) (upTo n) .1
 abbrev pub first : List ℕ → ℕ
 first vs = getD vs 0 NONE
 
+-- the same list with these links; with these stamps and this timestamp
+abbrev withLinks : List ℕ → List ℕ → Vmtf → Vmtf
+withLinks next prev l = record { next = next; prev = prev; ts = l .ts; start = l .start; search = l .search; timestamp = l .timestamp }
+
+abbrev withStamps : List ℕ → ℕ → Vmtf → Vmtf
+withStamps ts timestamp l = record { next = l .next; prev = l .prev; ts = ts; start = l .start; search = l .search; timestamp = timestamp }
+
 -- a turn of the loop of `make_linked_list`: v comes after p and before q, with the stamp k
 abbrev pub linked : ℕ → ℕ → ℕ → ℕ → Vmtf → Vmtf
-linked p v q k l = record {
-  next = set (l .next) v q;
-  prev = set (l .prev) v p;
-  ts = set (l .ts) v k;
-  start = l .start;
-  search = l .search;
-  timestamp = l .timestamp;
-}
+linked p v q k l = withLinks (set (l .next) v q) (set (l .prev) v p) (withStamps (set (l .ts) v k) (l .timestamp) l)
 
 -- the loop: vs come after p, each stamped with the number of those from it on
 unfoldable pub linkFrom : ℕ → List ℕ → Vmtf → Vmtf
@@ -70,15 +63,11 @@ linkFrom p [] l = l
 linkFrom p (v ∷ vs) l = linkFrom v vs (linked p v (first vs) (length (v ∷ vs)) l)
 
 -- `make_linked_list`, from nodes as `Default` makes them
+abbrev unlinked : ℕ → ℕ → Vmtf
+unlinked n front = record { next = replicate n NONE; prev = replicate n NONE; ts = replicate n 0; start = front; search = front; timestamp = n + 1 }
+
 unfoldable pub makeLinkedList : List ℕ → Vmtf
-makeLinkedList order = linkFrom NONE order (record {
-  next = replicate (length order) NONE;
-  prev = replicate (length order) NONE;
-  ts = replicate (length order) 0;
-  start = first order;
-  search = first order;
-  timestamp = length order + 1;
-})
+makeLinkedList order = linkFrom NONE order (unlinked (length order) (first order))
 
 -- `new`, for n variables and the literals of all clauses
 unfoldable pub new : ℕ → List ℕ → Vmtf
@@ -91,10 +80,6 @@ renumber next (suc k) curr ts =
     let r = renumber next k (getD next curr 0) (set ts curr (suc k)) in
     cond (eqb curr NONE) ts r
 
--- the same list with these stamps and this timestamp
-abbrev withStamps : List ℕ → ℕ → Vmtf → Vmtf
-withStamps ts timestamp l = record { next = l .next; prev = l .prev; ts = ts; start = l .start; search = l .search; timestamp = timestamp }
-
 -- `rescore`
 unfoldable pub rescore : Vmtf → Vmtf
 rescore l = withStamps (renumber (l .next) (length (l .next)) (l .start) (l .ts)) (length (l .next) + 1) l
@@ -104,15 +89,9 @@ unfoldable pub relink : ℕ → Vmtf → Vmtf
 relink v l =
     let before = getD (l .prev) v 0 in
     let after = getD (l .next) v 0 in
+    let next = set (set (l .next) v (l .start)) before after in
     let prev = set (set (l .prev) v NONE) (l .start) v in
-    record {
-      next = set (set (l .next) v (l .start)) before after;
-      prev = cond (eqb after NONE) prev (set prev after before);
-      ts = set (l .ts) v (l .timestamp);
-      start = v;
-      search = l .search;
-      timestamp = l .timestamp;
-    }
+    record { next = next; prev = cond (eqb after NONE) prev (set prev after before); ts = set (l .ts) v (l .timestamp); start = v; search = l .search; timestamp = l .timestamp }
 
 -- its end: the next timestamp, or `rescore` after the largest stamp
 unfoldable pub tick : Vmtf → Vmtf

@@ -45,14 +45,10 @@ before h = comesFirst (h .activity)
 
 -- `new`: activities 0, all members, all on
 unfoldable pub new : ℕ → Vsids
-new n = record {
-  activity = replicate n zeroActivity;
-  heap = build (comesFirst (replicate n zeroActivity)) n .heap;
-  indices = build (comesFirst (replicate n zeroActivity)) n .indices;
-  decision = replicate n true;
-  len = n;
-  step = freshStep;
-}
+new n =
+    let a = replicate n zeroActivity in
+    let s = build (comesFirst a) n in
+    record { activity = a; heap = s .heap; indices = s .indices; decision = replicate n true; len = n; step = freshStep }
 
 -- switched on and unassigned
 unfoldable pub isOpen : List ℕ → List Bool → ℕ → Bool
