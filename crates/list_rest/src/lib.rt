@@ -13,7 +13,7 @@ ghost use Rattle.forms.specs.Forms.{vmtf};
 ghost use Rattle.sheet.specs.Sheet as spec;
 ghost use Rattle.sheet.specs.Running.{Room, Ended};
 ghost use Rattle.list_rest.specs.Start.{RoomIn};
-use list_mode::ListState;
+use list_calls::ListState;
 use list_run::ListPlace;
 use lit::MAX_VARS;
 use lit::NONE;

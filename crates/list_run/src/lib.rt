@@ -8,8 +8,8 @@ ghost use Rattle.trail.specs.Memory.{trailOf};
 ghost use Rattle.vmtf.specs.Vmtf.{vmtfOf};
 ghost use Rattle.choosers.specs.List.{listOps};
 ghost use Rattle.calls.specs.Entry.{Answered};
-ghost use Rattle.list_mode.specs.Memory.{sessionOf};
-ghost use Rattle.list_mode.specs.Good.{InOrder, GoodSession};
+ghost use Rattle.list_calls.specs.Memory.{sessionOf};
+ghost use Rattle.list_calls.specs.Good.{InOrder, GoodSession};
 ghost use Rattle.forms.specs.Forms.{callIn};
 ghost use Rattle.forms.specs.Read.{Fits, groupOn};
 ghost use Rattle.sheet.specs.Sheet.{called, inList};
@@ -20,8 +20,8 @@ use forms::FEW;
 use forms::MANY;
 use forms::Read;
 use forms::SOME;
-use list_mode::ListAnswer;
-use list_mode::ListState;
+use list_calls::ListAnswer;
+use list_calls::ListState;
 use lit::BAD_LINE;
 use lit::NONE;
 use sheet::Place;
@@ -56,9 +56,9 @@ fn group_with(
         (sessionOf n m lits values levels reasons trail opened (now (next .exit)) (now (prev .exit)) (now (ts .exit)) (r .state))) ⌝ }
 {
     let Count::Are(k) = forms::read_group(line, vars) else {
-        return list_mode::refuse(BAD_LINE, s);
+        return list_calls::refuse(BAD_LINE, s);
     };
-    list_mode::group(
+    list_calls::group(
         n,
         next,
         prev,
@@ -131,7 +131,7 @@ fn line_call(
         (sessionOf n m lits (now (values .exit)) (now (levels .exit)) (now (reasons .exit)) (now (trail .exit)) (now (opened .exit)) (now (next .exit)) (now (prev .exit)) (now (ts .exit)) (r .state))) ⌝ }
 {
     match forms::read_call(line) {
-        Read::Bad => list_mode::refuse(BAD_LINE, s),
+        Read::Bad => list_calls::refuse(BAD_LINE, s),
         Read::Group => group_line(line, n, next, prev, ts, s),
         Read::Is(call) => {
             let none = [0u32; 0];
