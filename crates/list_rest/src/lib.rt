@@ -14,7 +14,7 @@ ghost use Rattle.sheet.specs.Sheet as spec;
 ghost use Rattle.sheet.specs.Running.{Room, Ended};
 ghost use Rattle.list_rest.specs.Start.{RoomIn};
 use list_calls::ListState;
-use list_run::ListPlace;
+use list_line::ListPlace;
 use lit::MAX_VARS;
 use lit::NONE;
 use lit::UNASSIGNED;

@@ -6,7 +6,7 @@ use native.Mathlib.Omega.{arith}
 use lib.ListN.{length}
 use Rattle.list_calls.specs.Memory.{sessionOf}
 use Rattle.sheet.specs.SessionLines.{along-none, along-more, along-over}
-use Rattle.list_run.specs.Lines.{ListAlong}
+use Rattle.list_line.specs.Lines.{ListAlong}
 use Rattle.list_run.proofs.list_lines.Statement.{statement}
 use Rattle.list_run.proofs.list_lines.Tie as tie
 
