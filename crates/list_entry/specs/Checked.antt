@@ -22,7 +22,7 @@ use Rattle.book.specs.Session.{Session, leaves, call}
 use Rattle.entry.specs.Sizes.{both}
 use Rattle.entry.specs.Kept as either
 use Rattle.entry.specs.Entered.{Sound}
-use Rattle.list_mode.specs.Good.{GoodSession}
+use Rattle.list_calls.specs.Good.{GoodSession}
 use Rattle.list_mode.specs.Kept.{IsGood, fresh-good-session}
 use Rattle.list_entry.specs.Entry.{listLengths, stateOk, listMode}
 

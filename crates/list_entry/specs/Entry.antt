@@ -13,7 +13,7 @@ use Rattle.book.specs.Session.{Result, Session}
 use Rattle.entry.specs.Asked.{Asked}
 use Rattle.entry.specs.Mode.{scratchLengths, Mode}
 use Rattle.entry.specs.Mode as mode
-use Rattle.list_mode.specs.declared.ListState.{ListState}
+use Rattle.list_calls.specs.declared.ListState.{ListState}
 
 -- refusal 5, of the list's slices
 abbrev pub listLengths : ℕ → Vmtf → Bool

@@ -2,13 +2,13 @@
 ghost use mathlib.Core.Path.{_≡_};
 ghost use lib.Dec.{eqb};
 ghost use Rattle.calls.specs.Entry.{Answered};
-ghost use Rattle.list_mode.specs.Memory.{sessionOf, cleared};
+ghost use Rattle.list_calls.specs.Memory.{sessionOf, cleared};
 ghost use Rattle.list_entry.specs.Entry.{made, blank};
+use list_calls::ListAnswer;
+use list_calls::ListState;
+use list_calls::accept;
+use list_calls::refuse;
 use list_entry::lengths_ok;
-use list_mode::ListAnswer;
-use list_mode::ListState;
-use list_mode::accept;
-use list_mode::refuse;
 use lit::NONE;
 use trail::TrailState;
 use vmtf::VmtfState;

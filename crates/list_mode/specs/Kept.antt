@@ -1,22 +1,18 @@
--- What a fresh session, going back and a group's variables are in list mode.
-use Prim.Native.Nat.{ℕ, zero, suc, _≤_}
+-- What a fresh session and going back are in list mode.
+use Prim.Native.Nat.{ℕ, _≤_}
 use mathlib.Core.Path.{_≡_, refl, ap}
 use mathlib.Core.Bool.{Bool, true, false, cond}
 use mathlib.Core.List.{List, [], _∷_}
 use native.Mathlib.Omega.{arith}
-use borrow.Author.Tests.{ltb-true}
 use lib.Dec.{ltb}
-use Rattle.laws.specs.Tests.{and-left, and-right}
 use Rattle.lit.specs.Numbers.{maxVars}
 use Rattle.trail.specs.Trail.{backtrackSafe}
 use Rattle.trail.specs.Laws.{fresh-good}
-use Rattle.vmtf.specs.Vmtf as vmtf
 use Rattle.vmtf.specs.Vmtf.{Vmtf}
 use Rattle.vmtf.specs.Fresh.{new-good}
 use Rattle.choosers.specs.List.{listOps}
-use Rattle.book.specs.Chooser.{below}
 use Rattle.book.specs.Session.{Session, fresh, offerAll, wentBack}
-use Rattle.list_mode.specs.Good.{GoodSession}
+use Rattle.list_calls.specs.Good.{GoodSession}
 
 -- going back in list mode changes the trail alone: what is offered to the list leaves it as it is
 module _ (n m : ℕ) (lits : List ℕ) where
@@ -32,13 +28,6 @@ module _ (n m : ℕ) (lits : List ℕ) where
   pub went : (l : ℕ) (s : Session n m (listOps n lits)) → wentBack n m (listOps n lits) l s ≡ record { trail = backtrackSafe l (s .trail); chooser = s .chooser }
   unfolding wentBack
   went l s = ap (λ (c : Vmtf). record { trail = backtrackSafe l (s .trail); chooser = c }) (same (ltb l (s .trail .level)) _ (s .chooser))
-
--- each variable of a group that passed its test is one of n
-pub below-at : (n : ℕ) (vs : List ℕ) → below n vs ≡ true → vmtf.Vars n vs
-unfolding below
-below-at n [] e i h = absurd (omega arith)
-below-at n (v ∷ vs) e zero h = ltb-true v n (and-left (ltb v n) (below n vs) e)
-below-at n (v ∷ vs) e (suc i) h = below-at n vs (and-right (ltb v n) (below n vs) e) i (omega arith)
 
 module _ (n m : ℕ) (lits : List ℕ) where
   -- the session is good

@@ -1,4 +1,3 @@
--- A session in list mode: its memory as the book's session, when it is good, and that every call keeps it good.
-pub mod Memory
-pub mod Good
+-- A session in list mode: which calls use scratch, what going back is, and that a fresh session is good.
+pub mod Scratch
 pub mod Kept

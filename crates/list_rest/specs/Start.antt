@@ -10,7 +10,7 @@ use Rattle.formula.specs.Good.{GoodClauses}
 use Rattle.trail.specs.Trail.{Trail, freshTrail}
 use Rattle.vmtf.specs.Vmtf.{Vmtf, Literals, new}
 use Rattle.book.specs.Session.{fresh}
-use Rattle.list_mode.specs.Good.{GoodSession}
+use Rattle.list_calls.specs.Good.{GoodSession}
 use Rattle.list_mode.specs.Kept.{fresh-good-session}
 use Rattle.list_entry.specs.Entry.{stateOk}
 use Rattle.list_entry.specs.Checked.{state-right}

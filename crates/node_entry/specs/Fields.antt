@@ -19,8 +19,8 @@ use Rattle.calls.specs.Entry.{sizesChecked, checked, Answered}
 use Rattle.entry.specs.Asked.{Asked}
 use Rattle.entry.specs.Mode.{trailLengths, lengthsOk}
 use Rattle.entry.specs.Mode as mode
-use Rattle.list_mode.specs.declared.ListState.{ListState}
-use Rattle.list_mode.specs.Memory.{sessionOf}
+use Rattle.list_calls.specs.declared.ListState.{ListState}
+use Rattle.list_calls.specs.Memory.{sessionOf}
 use Rattle.list_entry.specs.Entry.{listMode, entered, made}
 use Rattle.nodes.specs.declared.Node.{Node}
 use Rattle.nodes.specs.Nodes.{nexts, prevs, tss, room, roomFor}

@@ -3,7 +3,7 @@
 use activity::Step;
 use calls::Call;
 use heap_calls::HeapState;
-use list_mode::ListState;
+use list_calls::ListState;
 use lit::NONE;
 use trail::TrailState;
 use vmtf::VmtfState;

@@ -6,7 +6,7 @@ use Rattle.entry.specs.Asked.{asks}
 use Rattle.entry.specs.Checks.{refused, accepted}
 use Rattle.entry.specs.Mode.{entered}
 use Rattle.entry.specs.Entered.{admitted}
-use Rattle.list_mode.specs.Memory.{sessionOf}
+use Rattle.list_calls.specs.Memory.{sessionOf}
 use Rattle.list_entry.specs.Entry.{listMode}
 use Rattle.list_entry.specs.Checked.{list-sound}
 use Rattle.list_entry.proofs.Entering.{left}

@@ -10,7 +10,7 @@ use Rattle.vmtf.specs.Vmtf.{vmtfOf}
 use Rattle.vmtf.specs.Vmtf as vmtf
 use Rattle.choosers.specs.List.{listOps}
 use Rattle.entry.specs.Sizes.{both, sizes-right}
-use Rattle.list_mode.specs.Memory.{sessionOf}
+use Rattle.list_calls.specs.Memory.{sessionOf}
 use Rattle.list_entry.specs.Entry.{blank}
 use Rattle.list_entry.specs.Checked.{list-sized}
 use Rattle.entry.specs.Checks.{size-refused, size-passed, size-accepted, opened}

@@ -4,9 +4,9 @@ use mathlib.Core.Path.{_≡_, refl, _∙_}
 use mathlib.Core.List.{List, []}
 use native.Mathlib.Omega.{arith}
 use lib.ListN.{length}
-use Rattle.list_mode.specs.Memory.{sessionOf}
+use Rattle.list_calls.specs.Memory.{sessionOf}
 use Rattle.sheet.specs.SessionLines.{along-none, along-more, along-over}
-use Rattle.list_run.specs.Lines.{ListAlong}
+use Rattle.list_line.specs.Lines.{ListAlong}
 use Rattle.list_run.proofs.list_lines.Statement.{statement}
 use Rattle.list_run.proofs.list_lines.Tie as tie
 

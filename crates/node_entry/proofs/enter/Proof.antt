@@ -50,10 +50,11 @@ use Rattle.calls.proofs.Call.Laws as TC′
 use Rattle.book.specs.Session.{Result, Session}
 use Rattle.choosers.specs.List.{listOps}
 use Rattle.entry.specs.Asked.{asks}
-use Rattle.list_mode.specs.declared.ListState.{ListState}
-use Rattle.list_mode.proofs.ListState as TS
-use Rattle.list_mode.proofs.ListState.Laws as TS′
-use Rattle.list_mode.specs.Memory.{sessionOf, cleared, clears}
+use Rattle.list_calls.specs.declared.ListState.{ListState}
+use Rattle.list_calls.proofs.ListState as TS
+use Rattle.list_calls.proofs.ListState.Laws as TS′
+use Rattle.list_calls.specs.Memory.{sessionOf, cleared}
+use Rattle.list_mode.specs.Scratch.{clears}
 use Rattle.list_entry.specs.Entry.{entered}
 use Rattle.node_entry.specs.Fields.{entered-out, first-decide}
 use Rattle.nodes.specs.Nodes.{nexts, prevs, tss, room, roomFor}
@@ -77,9 +78,9 @@ use Rattle.nodes.proofs.gather.Met as gather-thm
 use Rattle.nodes.proofs.scatter.Symbol as scatter-def
 use Rattle.nodes.proofs.scatter.Symbol.{name as #nodes·scatter}
 use Rattle.nodes.proofs.scatter.Met as scatter-thm
-use Rattle.list_mode.specs.declared.ListAnswer.{ListAnswer}
-use Rattle.list_mode.proofs.ListAnswer as TA
-use Rattle.list_mode.proofs.ListAnswer.Laws as TA′
+use Rattle.list_calls.specs.declared.ListAnswer.{ListAnswer}
+use Rattle.list_calls.proofs.ListAnswer as TA
+use Rattle.list_calls.proofs.ListAnswer.Laws as TA′
 use Rattle.list_entry.proofs.enter as core
 use Rattle.list_entry.proofs.enter.Symbol as core-def
 use Rattle.list_entry.proofs.enter.Symbol.{name as #core}

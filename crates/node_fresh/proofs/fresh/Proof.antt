@@ -46,7 +46,7 @@ use Rattle.calls.specs.Entry.{Answered}
 use lib.Dec.{eqb}
 use Rattle.book.specs.Session.{Result, Session}
 use Rattle.choosers.specs.List.{listOps}
-use Rattle.list_mode.specs.Memory.{sessionOf, cleared}
+use Rattle.list_calls.specs.Memory.{sessionOf, cleared}
 use Rattle.list_entry.specs.Entry.{made, blank}
 use Rattle.node_entry.specs.Fields.{made-out, first-decide}
 use Rattle.nodes.specs.Nodes.{nexts, prevs, tss, room, roomFor}
@@ -70,9 +70,9 @@ use Rattle.nodes.proofs.gather.Met as gather-thm
 use Rattle.nodes.proofs.scatter.Symbol as scatter-def
 use Rattle.nodes.proofs.scatter.Symbol.{name as #nodes·scatter}
 use Rattle.nodes.proofs.scatter.Met as scatter-thm
-use Rattle.list_mode.specs.declared.ListAnswer.{ListAnswer}
-use Rattle.list_mode.proofs.ListAnswer as TA
-use Rattle.list_mode.proofs.ListAnswer.Laws as TA′
+use Rattle.list_calls.specs.declared.ListAnswer.{ListAnswer}
+use Rattle.list_calls.proofs.ListAnswer as TA
+use Rattle.list_calls.proofs.ListAnswer.Laws as TA′
 use Rattle.list_fresh.proofs.fresh as core
 use Rattle.list_fresh.proofs.fresh.Symbol as core-def
 use Rattle.list_fresh.proofs.fresh.Symbol.{name as #core}

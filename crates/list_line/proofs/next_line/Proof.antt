@@ -1,4 +1,4 @@
--- `list_run::next_line` meets its contract: the line is answered, and the run goes on behind it.
+-- `list_line::next_line` meets its contract: the line is answered, and the run goes on behind it.
 use Prim.Native.Nat.{ℕ, _+_}
 use mathlib.Core.Path.{_≡_, ap, _∙_}
 use mathlib.Core.List.{[]}
@@ -6,10 +6,10 @@ use native.Mathlib.Omega.{arith}
 use Rattle.sheet.specs.Running.{lineLength, after}
 use Rattle.sheet.specs.Steps.{line-length, line-part, line-inside}
 use Rattle.sheet.specs.SessionLines.{line-fits, same-called}
-use Rattle.list_run.specs.Lines.{list-one}
+use Rattle.list_line.specs.Lines.{list-one}
 use borrow.Author.Needs.{needs}
-use Rattle.list_run.proofs.next_line.Statement.{statement}
-use Rattle.list_run.proofs.next_line.Tie as tie
+use Rattle.list_line.proofs.next_line.Statement.{statement}
+use Rattle.list_line.proofs.next_line.Tie as tie
 
 add-end : tie.Need-add-end
 add-end c =

@@ -1,4 +1,4 @@
--- `list_mode::decide` meets its contract: by what `get_next` found; the variable that it picks has room on the trail.
+-- `list_calls::decide` meets its contract: by what `get_next` found; the variable that it picks has room on the trail.
 use mathlib.Core.Path.{refl, sym, ap, subst, _∙_}
 use borrow.Author.Tests.{le-ltb}
 use Rattle.trail.specs.Laws.{not-assigned}
@@ -9,8 +9,8 @@ use Rattle.choosers.specs.List.{nextOf}
 use Rattle.calls.specs.Outcomes.{failed, chosen, none-open, past-open}
 use Rattle.calls.specs.OnTrail.{decision-room}
 use borrow.Author.Needs.{needs}
-use Rattle.list_mode.proofs.decide.Statement.{statement}
-use Rattle.list_mode.proofs.decide.Tie as tie
+use Rattle.list_calls.proofs.decide.Statement.{statement}
+use Rattle.list_calls.proofs.decide.Tie as tie
 
 returns : tie.Need-returns
 unfolding call

@@ -1,9 +1,9 @@
--- `list_run::line_call` meets its contract: the call that was read is answered by the step, a group by its own function; a line that is none is refused.
+-- `list_line::line_call` meets its contract: the call that was read is answered by the step, a group by its own function; a line that is none is refused.
 use mathlib.Core.Path.{refl}
 use Rattle.sheet.specs.Called.{line-refused, line-answered, line-group}
 use borrow.Author.Needs.{needs}
-use Rattle.list_run.proofs.line_call.Statement.{statement}
-use Rattle.list_run.proofs.line_call.Tie as tie
+use Rattle.list_line.proofs.line_call.Statement.{statement}
+use Rattle.list_line.proofs.line_call.Tie as tie
 
 step-requires : tie.Need-step-requires
 step-requires c κs = (c .before .before .before .before .before .before .before .before .before .before .before .before .before .before .before .before .before .before .before .before .before .before .before .before .pre, (refl, refl))

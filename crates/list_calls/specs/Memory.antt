@@ -1,19 +1,16 @@
 -- A session in list mode as code holds it: eight lent slices, and the small states of the trail and of the list by value.
 use Prim.Native.Nat.{ℕ}
-use mathlib.Core.Bool.{Bool, false, cond}
+use mathlib.Core.Bool.{Bool, cond}
 use mathlib.Core.List.{List}
 use lib.ListN.{length, replicate}
-use lib.Dec.{eqb}
 use Rattle.trail.specs.Memory.{trailOf}
 use Rattle.vmtf.specs.Vmtf.{vmtfOf}
 use Rattle.choosers.specs.List.{listOps}
 use Rattle.book.specs.Calls.{Call}
 use Rattle.book.specs.Session.{Session, call}
 use Rattle.calls.specs.Entry.{Answered}
-use Rattle.calls.specs.declared.Call as code
-use Rattle.calls.specs.declared.Call.the-variants as variant
-use Rattle.list_mode.specs.declared.ListState.{ListState}
-use Rattle.list_mode.specs.declared.ListAnswer.{ListAnswer}
+use Rattle.list_calls.specs.declared.ListState.{ListState}
+use Rattle.list_calls.specs.declared.ListAnswer.{ListAnswer}
 
 -- the slices' contents and the small states, as the book's session over n variables and m clauses with these literals
 abbrev pub sessionOf : (n m : ℕ) (lits values levels reasons trail opened next prev ts : List ℕ) → ListState → Session n m (listOps n lits)
@@ -33,17 +30,3 @@ Answers n m lits c s a u = Answered (call n m (listOps n lits) s c) s (a .status
 -- scratch ends as zeros where it was used, else it stays
 abbrev pub cleared : Bool → List ℕ → List ℕ
 cleared used l = cond used (replicate (length l) 0) l
-
--- an accepted group uses it, and no other call
-abbrev pub clears : code.Call → ℕ → Bool
-clears (variant.Bump v) k = false
-clears variant.Decay k = false
-clears (variant.SetDecay d) k = false
-clears (variant.Insert v) k = false
-clears (variant.SwitchOff v) k = false
-clears (variant.Decide p) k = false
-clears (variant.Enqueue c r) k = false
-clears (variant.LearnUnit c) k = false
-clears (variant.GoBack l) k = false
-clears (variant.BumpReason v) k = false
-clears variant.Group k = eqb k 0

@@ -1,7 +1,7 @@
--- `list_mode::tested` meets its contract: by its test.
+-- `list_calls::tested` meets its contract: by its test.
 use borrow.Author.Needs.{needs}
-use Rattle.list_mode.proofs.tested.Statement.{statement}
-use Rattle.list_mode.proofs.tested.Tie as tie
+use Rattle.list_calls.proofs.tested.Statement.{statement}
+use Rattle.list_calls.proofs.tested.Tie as tie
 
 returns : tie.Need-returns
 returns c = rw (c .before .if1 .taken) (c .accept .ensures)

@@ -1,4 +1,4 @@
--- `list_mode::group` meets its contract: a good list is safe to move in and gives each of its variables a stamp of its own.
+-- `list_calls::group` meets its contract: a good list is safe to move in and gives each of its variables a stamp of its own.
 use mathlib.Core.Path.{refl, sym, ap, _∙_}
 use native.Mathlib.Omega.{arith}
 use borrow.Author.Tests.{not-true, not-false}
@@ -7,10 +7,10 @@ use Rattle.vmtf.specs.Good.{good-safe}
 use Rattle.vmtf.specs.Sort.{group-apart}
 use Rattle.book.specs.Session.{call, tuned}
 use Rattle.calls.specs.Outcomes.{failed, passed, rechosen}
-use Rattle.list_mode.specs.Kept.{below-at}
+use Rattle.list_calls.specs.Good.{below-at}
 use borrow.Author.Needs.{needs}
-use Rattle.list_mode.proofs.group.Statement.{statement}
-use Rattle.list_mode.proofs.group.Tie as tie
+use Rattle.list_calls.proofs.group.Statement.{statement}
+use Rattle.list_calls.proofs.group.Tie as tie
 
 returns : tie.Need-returns
 unfolding call

@@ -1,0 +1,2 @@
+-- A line of a session in list mode.
+pub mod Lines

@@ -1,2 +1,0 @@
--- The lines of a session in list mode.
-pub mod Lines
