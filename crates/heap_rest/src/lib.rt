@@ -12,6 +12,7 @@ ghost use Rattle.forms.specs.Forms.{vsids};
 ghost use Rattle.sheet.specs.Sheet as spec;
 ghost use Rattle.sheet.specs.Running.{Room, Ended};
 ghost use Rattle.heap_rest.specs.Start.{atStart, Blank};
+ghost use Rattle.heap_rest.specs.Sizes as size;
 use activity::ZERO_ACTIVITY;
 use heap_calls::HeapState;
 use heap_line::HeapPlace;
@@ -128,8 +129,15 @@ fn in_arrays(
     )
 }
 
-// The rest of a run with at most 64 variables: setting up long arrays costs more than a short run.
-fn in_64(
+// How many variables the shorter arrays of a session have room for: setting up long ones costs more than a short run.
+const FEW: u32 = 64;
+
+const SOME: u32 = 320;
+
+const MANY: u32 = 1152;
+
+// The rest of a run with few variables.
+fn in_few(
     sheet: &[u8],
     out: &mut [u8],
     positions: &mut [u32],
@@ -138,17 +146,17 @@ fn in_64(
     ends: &[u32],
     p: Place,
 ) -> usize
-    requires { ⌜ Room (now sheet) p (now out) × (n ≤ 64) × GoodClauses n (now lits) (now ends) × (n ≤ length (now positions)) ⌝ }
+    requires { ⌜ Room (now sheet) p (now out) × (n ≤ size.few) × GoodClauses n (now lits) (now ends) × (n ≤ length (now positions)) ⌝ }
     ensures { λ r. ⌜ Ended (now (sheet .entry)) p (spec.opened vsids n (now (lits .entry)) (now (ends .entry))) (now (out .entry)) r (now (out .exit)) ⌝ }
 {
-    let mut values = [UNASSIGNED; 64];
-    let mut levels = [NONE; 64];
-    let mut reasons = [NONE; 64];
-    let mut trail = [NONE; 64];
-    let mut opened = [NONE; 64];
-    let mut activity = [ZERO_ACTIVITY; 64];
-    let mut heap = [NONE; 64];
-    let mut decision = [true; 64];
+    let mut values = [UNASSIGNED; FEW as usize];
+    let mut levels = [NONE; FEW as usize];
+    let mut reasons = [NONE; FEW as usize];
+    let mut trail = [NONE; FEW as usize];
+    let mut opened = [NONE; FEW as usize];
+    let mut activity = [ZERO_ACTIVITY; FEW as usize];
+    let mut heap = [NONE; FEW as usize];
+    let mut decision = [true; FEW as usize];
     in_arrays(
         sheet,
         out,
@@ -168,8 +176,8 @@ fn in_64(
     )
 }
 
-// The same with at most 320.
-fn in_320(
+// The same with some.
+fn in_some(
     sheet: &[u8],
     out: &mut [u8],
     positions: &mut [u32],
@@ -178,17 +186,17 @@ fn in_320(
     ends: &[u32],
     p: Place,
 ) -> usize
-    requires { ⌜ Room (now sheet) p (now out) × (n ≤ 320) × GoodClauses n (now lits) (now ends) × (n ≤ length (now positions)) ⌝ }
+    requires { ⌜ Room (now sheet) p (now out) × (n ≤ size.some) × GoodClauses n (now lits) (now ends) × (n ≤ length (now positions)) ⌝ }
     ensures { λ r. ⌜ Ended (now (sheet .entry)) p (spec.opened vsids n (now (lits .entry)) (now (ends .entry))) (now (out .entry)) r (now (out .exit)) ⌝ }
 {
-    let mut values = [UNASSIGNED; 320];
-    let mut levels = [NONE; 320];
-    let mut reasons = [NONE; 320];
-    let mut trail = [NONE; 320];
-    let mut opened = [NONE; 320];
-    let mut activity = [ZERO_ACTIVITY; 320];
-    let mut heap = [NONE; 320];
-    let mut decision = [true; 320];
+    let mut values = [UNASSIGNED; SOME as usize];
+    let mut levels = [NONE; SOME as usize];
+    let mut reasons = [NONE; SOME as usize];
+    let mut trail = [NONE; SOME as usize];
+    let mut opened = [NONE; SOME as usize];
+    let mut activity = [ZERO_ACTIVITY; SOME as usize];
+    let mut heap = [NONE; SOME as usize];
+    let mut decision = [true; SOME as usize];
     in_arrays(
         sheet,
         out,
@@ -208,8 +216,8 @@ fn in_320(
     )
 }
 
-// The same with at most 1,152.
-fn in_1152(
+// The same with many.
+fn in_many(
     sheet: &[u8],
     out: &mut [u8],
     positions: &mut [u32],
@@ -218,17 +226,17 @@ fn in_1152(
     ends: &[u32],
     p: Place,
 ) -> usize
-    requires { ⌜ Room (now sheet) p (now out) × (n ≤ 1152) × GoodClauses n (now lits) (now ends) × (n ≤ length (now positions)) ⌝ }
+    requires { ⌜ Room (now sheet) p (now out) × (n ≤ size.many) × GoodClauses n (now lits) (now ends) × (n ≤ length (now positions)) ⌝ }
     ensures { λ r. ⌜ Ended (now (sheet .entry)) p (spec.opened vsids n (now (lits .entry)) (now (ends .entry))) (now (out .entry)) r (now (out .exit)) ⌝ }
 {
-    let mut values = [UNASSIGNED; 1152];
-    let mut levels = [NONE; 1152];
-    let mut reasons = [NONE; 1152];
-    let mut trail = [NONE; 1152];
-    let mut opened = [NONE; 1152];
-    let mut activity = [ZERO_ACTIVITY; 1152];
-    let mut heap = [NONE; 1152];
-    let mut decision = [true; 1152];
+    let mut values = [UNASSIGNED; MANY as usize];
+    let mut levels = [NONE; MANY as usize];
+    let mut reasons = [NONE; MANY as usize];
+    let mut trail = [NONE; MANY as usize];
+    let mut opened = [NONE; MANY as usize];
+    let mut activity = [ZERO_ACTIVITY; MANY as usize];
+    let mut heap = [NONE; MANY as usize];
+    let mut decision = [true; MANY as usize];
     in_arrays(
         sheet,
         out,
@@ -248,7 +256,7 @@ fn in_1152(
     )
 }
 
-// The same with at most 2,048.
+// The same with as many as there may be.
 fn in_all(
     sheet: &[u8],
     out: &mut [u8],
@@ -304,14 +312,14 @@ pub fn rest(
     if p.left == 0 {
         return p.at;
     }
-    if n <= 64 {
-        return in_64(sheet, out, positions, n, lits, ends, p);
+    if n <= FEW {
+        return in_few(sheet, out, positions, n, lits, ends, p);
     }
-    if n <= 320 {
-        return in_320(sheet, out, positions, n, lits, ends, p);
+    if n <= SOME {
+        return in_some(sheet, out, positions, n, lits, ends, p);
     }
-    if n <= 1152 {
-        return in_1152(sheet, out, positions, n, lits, ends, p);
+    if n <= MANY {
+        return in_many(sheet, out, positions, n, lits, ends, p);
     }
     in_all(sheet, out, positions, n, lits, ends, p)
 }

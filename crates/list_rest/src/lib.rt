@@ -13,6 +13,7 @@ ghost use Rattle.forms.specs.Forms.{vmtf};
 ghost use Rattle.sheet.specs.Sheet as spec;
 ghost use Rattle.sheet.specs.Running.{Room, Ended};
 ghost use Rattle.list_rest.specs.Start.{RoomIn};
+ghost use Rattle.list_rest.specs.Sizes as size;
 use list_calls::ListState;
 use list_line::ListPlace;
 use lit::MAX_VARS;
@@ -162,19 +163,24 @@ fn in_arrays(
     )
 }
 
-// The rest of a run with at most 32 variables: setting up long arrays costs more than a short run.
-fn in_32(sheet: &[u8], out: &mut [u8], n: u32, lits: &[u32], ends: &[u32], p: Place) -> usize
-    requires { ⌜ Room (now sheet) p (now out) × (n ≤ 32) × GoodClauses n (now lits) (now ends) ⌝ }
+// How many variables the shorter arrays of a session have room for: setting up long ones costs more than a short run.
+const FEW: u32 = 32;
+
+const SOME: u32 = 256;
+
+// The rest of a run with few variables.
+fn in_few(sheet: &[u8], out: &mut [u8], n: u32, lits: &[u32], ends: &[u32], p: Place) -> usize
+    requires { ⌜ Room (now sheet) p (now out) × (n ≤ size.few) × GoodClauses n (now lits) (now ends) ⌝ }
     ensures { λ r. ⌜ Ended (now (sheet .entry)) p (spec.opened vmtf n (now (lits .entry)) (now (ends .entry))) (now (out .entry)) r (now (out .exit)) ⌝ }
 {
-    let mut values = [UNASSIGNED; 32];
-    let mut levels = [NONE; 32];
-    let mut reasons = [NONE; 32];
-    let mut trail = [NONE; 32];
-    let mut opened = [NONE; 32];
-    let mut next = [NONE; 32];
-    let mut prev = [NONE; 32];
-    let mut ts = [0u64; 32];
+    let mut values = [UNASSIGNED; FEW as usize];
+    let mut levels = [NONE; FEW as usize];
+    let mut reasons = [NONE; FEW as usize];
+    let mut trail = [NONE; FEW as usize];
+    let mut opened = [NONE; FEW as usize];
+    let mut next = [NONE; FEW as usize];
+    let mut prev = [NONE; FEW as usize];
+    let mut ts = [0u64; FEW as usize];
     in_arrays(
         sheet,
         out,
@@ -193,19 +199,19 @@ fn in_32(sheet: &[u8], out: &mut [u8], n: u32, lits: &[u32], ends: &[u32], p: Pl
     )
 }
 
-// The same with at most 256.
-fn in_256(sheet: &[u8], out: &mut [u8], n: u32, lits: &[u32], ends: &[u32], p: Place) -> usize
-    requires { ⌜ Room (now sheet) p (now out) × (n ≤ 256) × GoodClauses n (now lits) (now ends) ⌝ }
+// The same with some.
+fn in_some(sheet: &[u8], out: &mut [u8], n: u32, lits: &[u32], ends: &[u32], p: Place) -> usize
+    requires { ⌜ Room (now sheet) p (now out) × (n ≤ size.some) × GoodClauses n (now lits) (now ends) ⌝ }
     ensures { λ r. ⌜ Ended (now (sheet .entry)) p (spec.opened vmtf n (now (lits .entry)) (now (ends .entry))) (now (out .entry)) r (now (out .exit)) ⌝ }
 {
-    let mut values = [UNASSIGNED; 256];
-    let mut levels = [NONE; 256];
-    let mut reasons = [NONE; 256];
-    let mut trail = [NONE; 256];
-    let mut opened = [NONE; 256];
-    let mut next = [NONE; 256];
-    let mut prev = [NONE; 256];
-    let mut ts = [0u64; 256];
+    let mut values = [UNASSIGNED; SOME as usize];
+    let mut levels = [NONE; SOME as usize];
+    let mut reasons = [NONE; SOME as usize];
+    let mut trail = [NONE; SOME as usize];
+    let mut opened = [NONE; SOME as usize];
+    let mut next = [NONE; SOME as usize];
+    let mut prev = [NONE; SOME as usize];
+    let mut ts = [0u64; SOME as usize];
     in_arrays(
         sheet,
         out,
@@ -224,7 +230,7 @@ fn in_256(sheet: &[u8], out: &mut [u8], n: u32, lits: &[u32], ends: &[u32], p: P
     )
 }
 
-// The same with at most 2,048.
+// The same with as many as there may be.
 fn in_all(sheet: &[u8], out: &mut [u8], n: u32, lits: &[u32], ends: &[u32], p: Place) -> usize
     requires { ⌜ Room (now sheet) p (now out) × (n ≤ number.maxVars) × GoodClauses n (now lits) (now ends) ⌝ }
     ensures { λ r. ⌜ Ended (now (sheet .entry)) p (spec.opened vmtf n (now (lits .entry)) (now (ends .entry))) (now (out .entry)) r (now (out .exit)) ⌝ }
@@ -263,11 +269,11 @@ pub fn rest(sheet: &[u8], out: &mut [u8], n: u32, lits: &[u32], ends: &[u32], p:
     if p.left == 0 {
         return p.at;
     }
-    if n <= 32 {
-        return in_32(sheet, out, n, lits, ends, p);
+    if n <= FEW {
+        return in_few(sheet, out, n, lits, ends, p);
     }
-    if n <= 256 {
-        return in_256(sheet, out, n, lits, ends, p);
+    if n <= SOME {
+        return in_some(sheet, out, n, lits, ends, p);
     }
     in_all(sheet, out, n, lits, ends, p)
 }

@@ -1,0 +1,8 @@
+-- How many variables the shorter arrays of a session have room for. `src/lib.rt` has the same numbers for code.
+use Prim.Native.Nat.{ℕ}
+
+abbrev pub few : ℕ
+few = 32
+
+abbrev pub some : ℕ
+some = 256
