@@ -95,7 +95,7 @@ pub fn print(sheet: &[u8], out: &mut [u8], positions: &mut [u32]) -> usize
     if r < NONE - SHORT_BUFFER {
         return r as usize;
     }
-    out[0] = 48 + (NONE - r) as u8;
+    out[0] = b'0' + (NONE - r) as u8;
     out[1] = NEWLINE;
     2
 }

@@ -1,3 +1,4 @@
+-- What the walks of the functions over nodes share.
 pub mod Filled
 pub mod Gathering
 pub mod Lending

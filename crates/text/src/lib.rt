@@ -81,17 +81,17 @@ pub fn number(field: &[u8]) -> Whole
     if field.len() == 0 {
         return Whole::Bad;
     }
-    if field[0] == 48 && field.len() > 1 {
+    if field[0] == b'0' && field.len() > 1 {
         return Whole::Bad;
     }
     let mut v: u64 = 0;
     let mut i = 0;
     while i < field.len() {
         let b = field[i];
-        if b < 48 || b > 57 {
+        if b < b'0' || b > b'9' {
             return Whole::Bad;
         }
-        v = v * 10 + (b - 48) as u64;
+        v = v * 10 + (b - b'0') as u64;
         if v > NONE as u64 {
             return Whole::Bad;
         }
@@ -109,10 +109,10 @@ pub fn number_at(bytes: &[u8], at: usize) -> Field
     let mut i = at;
     while i < bytes.len() && bytes[i] != TAB {
         let b = bytes[i];
-        if b < 48 || b > 57 {
+        if b < b'0' || b > b'9' {
             return Field::Bad;
         }
-        value = value * 10 + (b - 48) as u64;
+        value = value * 10 + (b - b'0') as u64;
         if value > NONE as u64 {
             return Field::Bad;
         }
@@ -121,7 +121,7 @@ pub fn number_at(bytes: &[u8], at: usize) -> Field
     if i == at {
         return Field::Bad;
     }
-    if bytes[at] == 48 && i - at > 1 {
+    if bytes[at] == b'0' && i - at > 1 {
         return Field::Bad;
     }
     Field::Is(value as u32, i)
@@ -131,11 +131,11 @@ pub fn number_at(bytes: &[u8], at: usize) -> Field
 fn hex_digit(b: u8) -> u8
     ensures { λ r. ⌜ r ≡ cond (spec.isHex b) (spec.hexDigit b) 16 ⌝ }
 {
-    if b >= 48 && b <= 57 {
-        return b - 48;
+    if b >= b'0' && b <= b'9' {
+        return b - b'0';
     }
-    if b >= 97 && b <= 102 {
-        return b - 87;
+    if b >= b'a' && b <= b'f' {
+        return b - (b'a' - 10);
     }
     16
 }
@@ -214,9 +214,9 @@ pub fn put_number(out: &mut [u8], at: usize, v: u32) -> usize
     let mut i = end;
     while left >= 10 {
         i -= 1;
-        out[i] = 48 + (left % 10) as u8;
+        out[i] = b'0' + (left % 10) as u8;
         left /= 10;
     }
-    out[at] = 48 + left as u8;
+    out[at] = b'0' + left as u8;
     end
 }

@@ -161,7 +161,7 @@ fn check_marked(values: &[u8], trail: &[u32], len: u32, marks: &mut [bool]) -> b
     covered_ok(values, marks)
 }
 
-// At most so many variables are few: marks for them are set up sooner.
+// At most so many variables are few: a short array of marks is enough for them.
 const FEW: usize = 64;
 
 // The same, with marks set up for it.
@@ -210,7 +210,7 @@ fn levels_ok(levels: &[u32], trail: &[u32], opened: &[u32], level: u32, len: u32
     true
 }
 
-// Whether every variable has a good value and a good reason. No reason at all, which is seen fastest, is good.
+// Whether every variable has a good value and a good reason. Where no variable has a reason, every reason is good.
 fn check_variables(m: u32, values: &[u8], reasons: &[u32]) -> bool
     requires { ⌜ length (now reasons) ≡ length (now values) ⌝ }
     ensures { λ r. ⌜ r ≡ (spec.valuesOk (now (values .entry)) && spec.reasonsOk m (now (values .entry)) (now (reasons .entry))) ⌝ }

@@ -12,7 +12,7 @@ ghost use Rattle.lit.specs.Numbers.{maxVars};
 ghost use Rattle.heap.specs.Heap.{placesOf, comesFirst};
 ghost use Rattle.vsids.specs.Vsids.{vsidsOf};
 ghost use Rattle.vsids.specs.Check as check;
-ghost use Rattle.vsids_check.specs.Untouched as fresh;
+ghost use Rattle.vsids_check.specs.Untouched as untouched;
 ghost use Rattle.vsids.specs.Check.{SameLengths};
 
 // Whether place i is good: in use it holds a variable whose position it is, and which does not come before its parent; else NONE.
@@ -50,9 +50,9 @@ fn places_ok(activity: &[f64], heap: &[u32], indices: &[u32], len: u32) -> bool
     true
 }
 
-// Whether every activity is at most `hi`, without sign and no NaN. Those that are not are counted, a sum that needs no branch.
+// Whether every activity is at most `hi`, without sign and no NaN.
 fn activities_within(hi: f64, activity: &[f64]) -> bool
-    ensures { λ r. ⌜ r ≡ every (fresh.activityWithin hi (now (activity .entry))) (length (now (activity .entry))) ⌝ }
+    ensures { λ r. ⌜ r ≡ every (untouched.activityWithin hi (now (activity .entry))) (length (now (activity .entry))) ⌝ }
 {
     let mut outside = 0u64;
     let mut v = 0;
@@ -68,7 +68,7 @@ fn activities_within(hi: f64, activity: &[f64]) -> bool
 // Whether every element is the number of its place.
 fn in_order(a: &[u32]) -> bool
     requires { ⌜ length (now a) ≤ maxVars ⌝ }
-    ensures { λ r. ⌜ r ≡ every (fresh.ownPlace (now (a .entry))) (length (now (a .entry))) ⌝ }
+    ensures { λ r. ⌜ r ≡ every (untouched.ownPlace (now (a .entry))) (length (now (a .entry))) ⌝ }
 {
     let mut moved = 0u32;
     let mut i = 0;
@@ -84,7 +84,7 @@ fn in_order(a: &[u32]) -> bool
 // Whether all variables are members in the order of their numbers and no activity is above 0, as in a fresh session.
 fn untouched(activity: &[f64], heap: &[u32], indices: &[u32], len: u32) -> bool
     requires { ⌜ (length (now heap) ≤ maxVars) × (length (now indices) ≤ maxVars) ⌝ }
-    ensures { λ r. ⌜ r ≡ fresh.untouched len (now (activity .entry)) (now (heap .entry)) (now (indices .entry)) ⌝ }
+    ensures { λ r. ⌜ r ≡ untouched.untouched len (now (activity .entry)) (now (heap .entry)) (now (indices .entry)) ⌝ }
 {
     if len as usize != activity.len() {
         return false;

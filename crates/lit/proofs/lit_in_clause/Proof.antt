@@ -1,3 +1,4 @@
+-- `lit::lit_in_clause` meets its contract. The loop's invariant: the literal is in the clause exactly when it is in what is left of it.
 use Prim.Native.Nat.{_≤_, _<_, _+_, _-_}
 use mathlib.Core.Path.{_≡_, refl, _∙_}
 use mathlib.Core.List.{_∷_}

@@ -1,3 +1,4 @@
+-- `lit::lit_sat` meets its contract: the polarity is the callee's.
 use borrow.Author.Needs.{needs}
 use Rattle.lit.proofs.lit_sat.Statement.{statement}
 use Rattle.lit.proofs.lit_sat.Tie as tie

@@ -1,3 +1,4 @@
+-- `lit::lit_unsat` meets its contract: the polarity is 0 or 1, so that 1 less it is one too.
 use borrow.Author.Needs.{needs}
 use Rattle.lit.proofs.lit_unsat.Statement.{statement}
 use Rattle.lit.proofs.lit_unsat.Tie as tie

@@ -1,3 +1,4 @@
+-- `lit::new_assignments` meets its contract. The loop's invariant: the first i values are unassigned, the others as they were.
 use Prim.Native.Nat.{_≤_, _<_, _-_}
 use mathlib.Core.Path.{_≡_, refl, _∙_}
 use mathlib.Core.List.{_++_, append-nil}

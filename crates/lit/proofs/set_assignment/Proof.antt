@@ -1,3 +1,4 @@
+-- `lit::set_assignment` meets its contract: the polarity is the callee's.
 use borrow.Author.Needs.{needs}
 use Rattle.lit.proofs.set_assignment.Statement.{statement}
 use Rattle.lit.proofs.set_assignment.Tie as tie

@@ -21,4 +21,4 @@ returns-3 c =
     (λ l h. ⊎-elim (λ w. omega (arith, leb-false)) (λ w. omega arith) (c .if3 .came)))
 
 pub hex-digit-spec : {M : Type 1} → statement M
-hex-digit-spec = tie.close (tie.spec returns (λ c. search needs) returns-2 returns-3)
+hex-digit-spec = tie.close (tie.spec returns (λ c. search needs) (λ c. search needs) returns-2 returns-3)

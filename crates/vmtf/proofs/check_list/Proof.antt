@@ -1,3 +1,4 @@
+-- `vmtf::check_list` meets its contract: each test that fails decides the definition's.
 use mathlib.Core.Path.{sym, _∙_}
 use borrow.Author.Tests.{eq-eqb, ne-eqb, not-true, not-false}
 use Rattle.vmtf.specs.Vmtf.{checkList}

@@ -1,5 +1,5 @@
+-- `vmtf::check_row` meets its contract. The loop's invariant: checking on from curr gives the goal.
 use borrow.Author.Tests.{not-true, not-false}
--- The loop's invariant: checking on from curr gives the goal.
 use Prim.Native.Nat.{_≤_, _<_, _-_}
 use mathlib.Core.Path.{_≡_, sym, _∙_}
 use native.Mathlib.Omega.{arith}

@@ -1,3 +1,4 @@
+-- `vmtf::get_next` meets its contract: the first open variable decides which of the definition's cases it is.
 use mathlib.Core.Path.{sym, _∙_}
 use borrow.Author.Tests.{eq-eqb, ne-eqb}
 use Rattle.vmtf.specs.Laws.{found}

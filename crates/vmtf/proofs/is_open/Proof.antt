@@ -1,3 +1,4 @@
+-- `vmtf::is_open` meets its contract: it is the definition's test.
 use mathlib.Core.Path.{refl}
 use Rattle.vmtf.specs.Vmtf.{isOpen}
 use borrow.Author.Needs.{needs}

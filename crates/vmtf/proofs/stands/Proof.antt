@@ -1,3 +1,4 @@
+-- `vmtf::stands` meets its contract: each test that fails decides the definition's.
 use borrow.Author.Tests.{eq-eqb, ne-eqb, lt-ltb, le-ltb}
 use Rattle.vmtf.specs.Vmtf.{stands}
 use borrow.Author.Needs.{needs}

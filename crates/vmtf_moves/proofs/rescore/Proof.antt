@@ -1,3 +1,4 @@
+-- `vmtf_moves::rescore` meets its contract: it is `renumber` from the front.
 use Rattle.vmtf.specs.Vmtf.{rescore}
 use borrow.Author.Needs.{needs}
 use Rattle.vmtf_moves.proofs.rescore.Statement.{statement}

@@ -1,3 +1,4 @@
+-- `vmtf_moves::order::group_order` meets its contract: the group's variables sorted by their stamps are `byStamp`.
 use Rattle.vmtf.specs.Sort.{sorted-is}
 use borrow.Author.Needs.{needs}
 use Rattle.vmtf_moves.proofs.order.group_order.Statement.{statement}

@@ -1,5 +1,5 @@
+-- `vmtf_new::order::number` meets its contract. The loop's invariant: the first i places hold their own numbers, the others what they held.
 use Rattle.laws.specs.InPlace.{upTo}
--- The loop's invariant: the first i places hold their own numbers, the others what they held.
 use Prim.Native.Nat.{_≤_, _<_, _-_}
 use mathlib.Core.Path.{_≡_, refl, _∙_}
 use native.Mathlib.Omega.{arith}
