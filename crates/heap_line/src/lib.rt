@@ -1,7 +1,8 @@
 // A line of a session in heap mode: a call, done and answered.
+ghost use mathlib.Core.Path.{_≡_};
 ghost use mathlib.Core.Bool.{Bool};
 ghost use mathlib.Core.List.{List};
-ghost use Prim.Native.Nat.{ℕ, _<_};
+ghost use Prim.Native.Nat.{ℕ, _+_, _<_};
 ghost use lib.Ieee.{Float};
 ghost use lib.ListN.{length};
 ghost use Rattle.trail.specs.Memory.{trailOf};
@@ -138,7 +139,7 @@ pub fn next_line(
 ) -> HeapPlace
     requires { ⌜ Room (now sheet) (s .place) (now out) × (0 < s .place .left) ⌝ }
     requires { ⌜ GoodSession n (length (now ends)) (now lits) (now ends) (trailOf (now values) (now levels) (now reasons) (now trail) (now opened) (s .state .trail)) (vsidsOf (now activity) (now heap) (now indices) (now decision) (s .state .vsids)) ⌝ }
-    ensures { λ r. ⌜ r .place .left < s .place .left ⌝ }
+    ensures { λ r. ⌜ r .place .left + 1 ≡ s .place .left ⌝ }
     ensures { λ r. ⌜ HeapAlong n (now (lits .entry)) (now (ends .entry)) (now (sheet .entry))
         (s .place)
         (sessionOf n (length (now (ends .entry))) (now (lits .entry)) (now (ends .entry)) (now (values .entry)) (now (levels .entry)) (now (reasons .entry)) (now (trail .entry)) (now (opened .entry)) (now (activity .entry)) (now (heap .entry)) (now (indices .entry)) (now (decision .entry)) (s .state))

@@ -36,7 +36,8 @@ pub fn heap_lines(
         (now (out .exit)) ⌝ }
 {
     let mut u = s;
-    while u.place.left > 0 {
+    let mut left = s.place.left;
+    while left > 0 {
         u = next_line(
             sheet,
             out,
@@ -54,6 +55,7 @@ pub fn heap_lines(
             decision,
             u,
         );
+        left = left - 1;
     }
     u.place.at
 }

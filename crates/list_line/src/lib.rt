@@ -1,7 +1,7 @@
 // A line of a session in list mode: a call, done and answered.
 ghost use mathlib.Core.Path.{_≡_};
 ghost use mathlib.Core.List.{List};
-ghost use Prim.Native.Nat.{ℕ, _<_, _≤_};
+ghost use Prim.Native.Nat.{ℕ, _+_, _<_, _≤_};
 ghost use lib.ListN.{length};
 ghost use Rattle.lit.specs.Numbers as number;
 ghost use Rattle.trail.specs.Memory.{trailOf};
@@ -176,7 +176,7 @@ pub fn next_line(
 ) -> ListPlace
     requires { ⌜ Room (now sheet) (s .place) (now out) × (0 < s .place .left) × (length (now ends) ≤ number.maxClauses) ⌝ }
     requires { ⌜ GoodSession n (length (now ends)) (trailOf (now values) (now levels) (now reasons) (now trail) (now opened) (s .state .trail)) (vmtfOf (now next) (now prev) (now ts) (s .state .vmtf)) ⌝ }
-    ensures { λ r. ⌜ r .place .left < s .place .left ⌝ }
+    ensures { λ r. ⌜ r .place .left + 1 ≡ s .place .left ⌝ }
     ensures { λ r. ⌜ ((lits : List ℕ) → ListAlong n lits (now (ends .entry)) (now (sheet .entry))
         (s .place)
         (sessionOf n (length (now (ends .entry))) lits (now (values .entry)) (now (levels .entry)) (now (reasons .entry)) (now (trail .entry)) (now (opened .entry)) (now (next .entry)) (now (prev .entry)) (now (ts .entry)) (s .state))

@@ -37,7 +37,8 @@ pub fn list_lines(
         (now (out .exit))) ⌝ }
 {
     let mut u = s;
-    while u.place.left > 0 {
+    let mut left = s.place.left;
+    while left > 0 {
         u = next_line(
             sheet,
             out,
@@ -53,6 +54,7 @@ pub fn list_lines(
             ts,
             u,
         );
+        left = left - 1;
     }
     u.place.at
 }
