@@ -128,7 +128,7 @@ fn lines_behind(
 // At most so many variables have a short array of positions.
 const FEW: u32 = 320;
 
-// The lines behind the first in heap mode, on positions set up for them.
+// The lines behind the first, on positions set up for them.
 fn own_positions(sheet: &[u8], out: &mut [u8], heap: bool, n: u32, p: Place) -> usize
     requires { ⌜ Room (now sheet) p (now out) × (n ≤ number.maxVars) ⌝ }
     ensures { λ r. ⌜ Ended (now (sheet .entry)) p (reading (modeOf heap) n [] []) (now (out .entry)) r (now (out .exit)) ⌝ }
