@@ -7,7 +7,7 @@ use lib.ListN.{length}
 use Rattle.formula_checks.specs.declared.Checked.{Checked}
 use Rattle.formula.specs.Clauses.{clausesOk}
 use Rattle.formula_checks.specs.Checks.{checkFormulaInvariantCall}
-use Rattle.trail_check.specs.Check.{trailOk}
+use Rattle.trail_tests.specs.Check.{trailOk}
 use Rattle.vsids.specs.Check.{checkHeap}
 use Rattle.vmtf.specs.Vmtf.{checkList}
 use Rattle.book.specs.Calls.{Call}

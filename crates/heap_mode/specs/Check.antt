@@ -11,7 +11,7 @@ use Rattle.lit.specs.Numbers.{maxVars}
 use Rattle.formula.specs.Good.{GoodClauses}
 use Rattle.trail.specs.Trail.{Trail, freshTrail}
 use Rattle.trail.specs.Memory.{Sized}
-use Rattle.trail_check.specs.Check.{trailOk}
+use Rattle.trail_tests.specs.Check.{trailOk}
 use Rattle.trail_check.specs.Checked.{trail-right}
 use Rattle.trail.specs.Laws.{fresh-good}
 use Rattle.vsids.specs.Vsids.{Vsids, new}

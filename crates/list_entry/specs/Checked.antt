@@ -12,7 +12,7 @@ use Rattle.laws.specs.Tests.{and-left, and-right, and-both}
 use Rattle.lit.specs.Numbers.{NONE, maxVars}
 use Rattle.trail.specs.Trail.{Trail}
 use Rattle.trail.specs.Memory.{Sized}
-use Rattle.trail_check.specs.Check.{trailOk}
+use Rattle.trail_tests.specs.Check.{trailOk}
 use Rattle.trail_check.specs.Checked.{trail-right}
 use Rattle.vmtf.specs.Vmtf.{Vmtf, checkList}
 use Rattle.vmtf.specs.Check.{check-good}

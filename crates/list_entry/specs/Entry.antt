@@ -6,7 +6,7 @@ use lib.ListN.{length}
 use lib.Dec.{eqb}
 use Rattle.lit.specs.Numbers.{NONE}
 use Rattle.trail.specs.Trail.{Trail}
-use Rattle.trail_check.specs.Check.{trailOk}
+use Rattle.trail_tests.specs.Check.{trailOk}
 use Rattle.vmtf.specs.Vmtf.{Vmtf, checkList}
 use Rattle.choosers.specs.List.{listOps}
 use Rattle.book.specs.Session.{Result, Session}

@@ -4,17 +4,16 @@ use mathlib.Core.Path.{_≡_, sym, ap}
 use mathlib.Core.Bool.{Bool, true, false, not, _&&_, _||_, or-true, or-false}
 use mathlib.Core.List.{List}
 use native.Mathlib.Omega.{arith}
-use borrow.Author.Tests.{ltb-true, le-leb, eq-eqb, ne-eqb}
+use borrow.Author.Tests.{ltb-true, eq-eqb, ne-eqb}
 use lib.ListN.{length, getD, set, replicate, length-set, length-replicate, getD-replicate}
-use lib.Dec.{leb, ltb, eqb}
+use lib.Dec.{ltb, eqb}
 use Rattle.laws.specs.Tests.{and-left}
 use Rattle.laws.specs.Choices.{and-then}
 use Rattle.laws.specs.Lists.{set-cases}
 use Rattle.laws.specs.Every.{Passed, passed-more}
 use Rattle.laws.specs.Some.{some, some-more, every-same}
-use Rattle.lit.specs.Numbers.{unassigned}
 use Rattle.lit.specs.Lits.{index, litSat}
-use Rattle.trail_check.specs.Check.{stands, Marked, literalOk, placeOk, heldAt, heldOk, coveredAt, coveredOk}
+use Rattle.trail_tests.specs.Check.{stands, Marked, literalOk, placeOk, heldAt, heldOk, coveredAt, coveredOk}
 
 -- the first i places pass, and their variables are marked
 pub record Marking (values trail : List ℕ) (len : ℕ) (marks₀ : List Bool) (i : ℕ) (marks : List Bool) : Type 0 where
@@ -52,14 +51,6 @@ module _ {values trail : List ℕ} {len : ℕ} {marks₀ : List Bool} {i : ℕ} 
     marked = mark-more trail i (length values) marks (m .marked) (place-var e);
     same = simp length-set (m .same);
   }
-
--- the least value that passes: any of a marked variable, 2 of another
-module _ (value : ℕ) {least : ℕ} {mark : Bool} where
-  pub any-value : least ≡ 0 → mark ≡ true → leb least value ≡ leb unassigned value || mark
-  any-value e m = rw (e, m, or-true, le-leb 0 value (omega arith))
-
-  pub unassigned-value : least ≡ unassigned → mark ≡ false → leb least value ≡ leb unassigned value || mark
-  unassigned-value e m = rw (e, m, or-false)
 
 -- before the first place nothing is marked, and after the last one the marks say which variables the trail holds
 pub no-marks : (trail : List ℕ) (n k : ℕ) → n ≤ k → Marked trail 0 n (replicate k false)

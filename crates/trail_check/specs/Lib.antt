@@ -1,3 +1,2 @@
--- The check of a lent trail, and that it says what the facts of a good trail say.
-pub mod Check
+-- The check of a lent trail says what the facts of a good trail say.
 pub mod Checked

@@ -1,48 +1,24 @@
 // The trail's check, for memory that was lent: nothing is known of it but the slices' lengths.
 ghost use mathlib.Core.Path.{_≡_};
-ghost use mathlib.Core.Bool.{true, false, _&&_};
+ghost use mathlib.Core.Bool.{true, _&&_};
 ghost use Prim.Native.Nat.{ℕ, _≤_, _<_};
 ghost use lib.ListN.{length, getD};
 ghost use Rattle.lit.specs.Numbers as number;
 ghost use Rattle.lit.specs.Lits as lits;
-ghost use Rattle.trail_check.specs.Check as spec;
-ghost use Rattle.trail_check.specs.Check.{Marked};
+ghost use Rattle.trail_tests.specs.Check as spec;
+ghost use Rattle.trail_tests.specs.Check.{Marked};
 ghost use Rattle.trail.specs.Memory.{trailOf, Lengths};
-use lit::NONE;
-use lit::UNASSIGNED;
 use trail::TrailState;
+use trail_tests::counts_ok;
+use trail_tests::covered;
+use trail_tests::level_at;
+use trail_tests::level_ok;
+use trail_tests::literal_ok;
+use trail_tests::reason_ok;
+use trail_tests::unused_ok;
+use trail_tests::values_ok;
 
-// Whether the counts lie within n places, and `curr_i` on the trail.
-fn counts_ok(n: usize, s: TrailState) -> bool
-    ensures { λ r. ⌜ r ≡ spec.countsOk n (s .len) (s .level) (s .«curr_i») ⌝ }
-{
-    s.len as usize <= n && (s.level as usize <= n && s.curr_i <= s.len)
-}
-
-// Whether every value is 0, 1 or 2.
-fn values_ok(values: &[u8]) -> bool
-    ensures { λ r. ⌜ r ≡ spec.valuesOk (now (values .entry)) ⌝ }
-{
-    let mut ok = true;
-    let mut v = 0;
-    while v < values.len() {
-        if values[v] > UNASSIGNED {
-            ok = false;
-        }
-        v += 1;
-    }
-    ok
-}
-
-// Whether the variable's reason is NONE, or a clause number and the variable assigned.
-fn reason_ok(m: u32, values: &[u8], reasons: &[u32], v: usize) -> bool
-    requires { ⌜ (v < length (now values)) × (v < length (now reasons)) ⌝ }
-    ensures { λ r. ⌜ r ≡ spec.reasonOk m (now (values .entry)) (now (reasons .entry)) v ⌝ }
-{
-    reasons[v] == NONE || (reasons[v] < m && values[v] < UNASSIGNED)
-}
-
-// Whether every variable's reason is so.
+// Whether every variable's reason is NONE, or a clause number and the variable assigned.
 fn reasons_ok(m: u32, values: &[u8], reasons: &[u32]) -> bool
     requires { ⌜ length (now reasons) ≡ length (now values) ⌝ }
     ensures { λ r. ⌜ r ≡ spec.reasonsOk m (now (values .entry)) (now (reasons .entry)) ⌝ }
@@ -57,31 +33,7 @@ fn reasons_ok(m: u32, values: &[u8], reasons: &[u32]) -> bool
     true
 }
 
-// Whether every place from `used` on holds NONE.
-fn unused_ok(a: &[u32], used: u32) -> bool
-    requires { ⌜ used ≤ length (now a) ⌝ }
-    ensures { λ r. ⌜ r ≡ spec.unusedOk (now (a .entry)) used ⌝ }
-{
-    let mut ok = true;
-    let mut i = used as usize;
-    while i < a.len() {
-        if a[i] != NONE {
-            ok = false;
-        }
-        i += 1;
-    }
-    ok
-}
-
-// Whether the opened level lies below the trail length and above the one before it.
-fn level_ok(opened: &[u32], len: u32, k: usize) -> bool
-    requires { ⌜ k < length (now opened) ⌝ }
-    ensures { λ r. ⌜ r ≡ spec.levelOk (now (opened .entry)) len k ⌝ }
-{
-    opened[k] < len && (k == 0 || opened[k - 1] < opened[k])
-}
-
-// Whether every opened level in use does.
+// Whether every opened level in use lies below the trail length and above the one before it.
 fn opened_ok(opened: &[u32], level: u32, len: u32) -> bool
     requires { ⌜ level ≤ length (now opened) ⌝ }
     ensures { λ r. ⌜ r ≡ spec.openedOk (now (opened .entry)) level len ⌝ }
@@ -94,15 +46,6 @@ fn opened_ok(opened: &[u32], level: u32, len: u32) -> bool
         k += 1;
     }
     true
-}
-
-// Whether the literal is of a variable, holds, and its variable is not marked.
-fn literal_ok(values: &[u8], marks: &[bool], code: u32) -> bool
-    requires { ⌜ length (now values) ≤ length (now marks) ⌝ }
-    ensures { λ r. ⌜ r ≡ spec.literalOk (now (values .entry)) code (getD (now (marks .entry)) (lits.index code) false) ⌝ }
-{
-    let v = lit::index(code) as usize;
-    v < values.len() && (lit::lit_sat(code, values) && !marks[v])
 }
 
 // Whether every literal of the trail is of a variable, holds, and is the first of its variable. Marks the variables passed.
@@ -124,16 +67,7 @@ fn places_ok(values: &[u8], trail: &[u32], len: u32, marks: &mut [bool]) -> bool
     true
 }
 
-// Whether the variable is unassigned or marked: its value is at least 2, or any if it is marked.
-fn covered(values: &[u8], marks: &[bool], v: usize) -> bool
-    requires { ⌜ (v < length (now values)) × (v < length (now marks)) ⌝ }
-    ensures { λ r. ⌜ r ≡ spec.coveredAt (now (values .entry)) (now (marks .entry)) v ⌝ }
-{
-    let least = if marks[v] { 0 } else { UNASSIGNED };
-    values[v] >= least
-}
-
-// Whether every variable is so: every assigned one is marked.
+// Whether every variable is unassigned or marked.
 fn covered_ok(values: &[u8], marks: &[bool]) -> bool
     requires { ⌜ length (now values) ≤ length (now marks) ⌝ }
     ensures { λ r. ⌜ r ≡ spec.coveredOk (now (values .entry)) (now (marks .entry)) ⌝ }
@@ -175,19 +109,6 @@ fn check_places(values: &[u8], trail: &[u32], len: u32) -> bool
     }
     let mut marks = [false; lit::MAX_VARS as usize];
     check_marked(values, trail, len, &mut marks)
-}
-
-// The level of place i, where l is that of the place before: one more if a level was opened at i.
-fn level_at(opened: &[u32], level: u32, l: u32, i: u32) -> u32
-    requires { ⌜ (level ≤ length (now opened)) × (l ≤ level) ⌝ }
-    ensures { λ r. ⌜ r ≡ spec.climb (now (opened .entry)) level l i ⌝ }
-{
-    if l < level {
-        if opened[l as usize] == i {
-            return l + 1;
-        }
-    }
-    l
 }
 
 // Whether every trail variable has the level of its place.

@@ -2,7 +2,7 @@
 use mathlib.Core.Path.{sym, _∙_}
 use borrow.Author.Needs.{needs}
 use borrow.Author.Tests.{not-true, not-false}
-use Rattle.trail_check.proofs.Whole.{no-reasons}
+use Rattle.trail_check.proofs.Reasons.{no-reasons}
 use Rattle.trail_check.proofs.check_variables.Statement.{statement}
 use Rattle.trail_check.proofs.check_variables.Tie as tie
 

@@ -1,9 +1,9 @@
--- `trail_check::covered` meets its contract: of a marked variable every value passes.
+-- `trail_tests::covered` meets its contract: of a marked variable every value passes.
 use mathlib.Core.Logic.{⊎-elim}
 use borrow.Author.Needs.{needs}
-use Rattle.trail_check.proofs.Marks.{any-value, unassigned-value}
-use Rattle.trail_check.proofs.covered.Statement.{statement}
-use Rattle.trail_check.proofs.covered.Tie as tie
+use Rattle.trail_tests.proofs.Least.{any-value, unassigned-value}
+use Rattle.trail_tests.proofs.covered.Statement.{statement}
+use Rattle.trail_tests.proofs.covered.Tie as tie
 
 returns : tie.Need-returns
 returns c = ⊎-elim (λ w. any-value _ (w .1) (w .0 .taken)) (λ w. unassigned-value _ (w .1) (w .0 .left)) (c .before .if1 .came)

@@ -1,8 +1,8 @@
--- `trail_check::level_at` meets its contract, by its tests.
+-- `trail_tests::level_at` meets its contract, by its tests.
 use borrow.Author.Needs.{needs}
 use borrow.Author.Tests.{lt-ltb, le-ltb, eq-eqb, ne-eqb}
-use Rattle.trail_check.proofs.level_at.Statement.{statement}
-use Rattle.trail_check.proofs.level_at.Tie as tie
+use Rattle.trail_tests.proofs.level_at.Statement.{statement}
+use Rattle.trail_tests.proofs.level_at.Tie as tie
 
 returns : tie.Need-returns
 returns c = rw (lt-ltb _ _ (c .before .before .if1 .taken), eq-eqb _ _ (c .if2 .taken))

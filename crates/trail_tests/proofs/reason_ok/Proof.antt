@@ -1,8 +1,8 @@
--- `trail_check::reason_ok` meets its contract, by its tests.
+-- `trail_tests::reason_ok` meets its contract, by its tests.
 use borrow.Author.Tests.{eq-eqb, ne-eqb, lt-ltb, le-ltb}
 use borrow.Author.Needs.{needs}
-use Rattle.trail_check.proofs.reason_ok.Statement.{statement}
-use Rattle.trail_check.proofs.reason_ok.Tie as tie
+use Rattle.trail_tests.proofs.reason_ok.Statement.{statement}
+use Rattle.trail_tests.proofs.reason_ok.Tie as tie
 
 returns : tie.Need-returns
 returns c = rw (eq-eqb _ _ (c .if1 .taken))

@@ -1,9 +1,9 @@
--- `trail_check::literal_ok` meets its contract, by its tests.
+-- `trail_tests::literal_ok` meets its contract, by its tests.
 use mathlib.Core.Path.{sym, _∙_}
 use borrow.Author.Needs.{needs}
 use borrow.Author.Tests.{lt-ltb, le-ltb}
-use Rattle.trail_check.proofs.literal_ok.Statement.{statement}
-use Rattle.trail_check.proofs.literal_ok.Tie as tie
+use Rattle.trail_tests.proofs.literal_ok.Statement.{statement}
+use Rattle.trail_tests.proofs.literal_ok.Tie as tie
 
 returns : tie.Need-returns
 returns c =

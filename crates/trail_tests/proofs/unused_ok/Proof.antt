@@ -1,4 +1,4 @@
--- `trail_check::unused_ok` meets its contract: what is known of the places passed so far is that they pass the test, or not.
+-- `trail_tests::unused_ok` meets its contract: what is known of the places passed so far is that they pass the test, or not.
 use Prim.Native.Nat.{_≤_, _-_}
 use mathlib.Core.Path.{_≡_, sym}
 use mathlib.Core.Logic.{⊎-elim}
@@ -7,10 +7,10 @@ use borrow.Author.Needs.{needs}
 use borrow.Author.Tests.{lt-ltb, le-ltb, eq-eqb, ne-eqb}
 use lib.ListN.{length}
 use Rattle.laws.specs.Every.{every, every-all}
-use Rattle.trail_check.specs.Check.{noneAt, unusedOk}
-use Rattle.trail_check.proofs.Whole.{flag-stays, flag-falls}
-use Rattle.trail_check.proofs.unused_ok.Statement.{statement}
-use Rattle.trail_check.proofs.unused_ok.Tie as tie
+use Rattle.trail_tests.specs.Check.{noneAt, unusedOk}
+use Rattle.trail_tests.proofs.Flags.{flag-stays, flag-falls}
+use Rattle.trail_tests.proofs.unused_ok.Statement.{statement}
+use Rattle.trail_tests.proofs.unused_ok.Tie as tie
 
 abbrev Inv-loop : tie.InvT-loop
 Inv-loop a used ok₀ i₀ ok i = ((used ≤ i) × (i ≤ length a)) × (ok ≡ every (noneAt a used) i)

@@ -1,9 +1,9 @@
--- `trail_check::counts_ok` meets its contract, by its tests.
-use Rattle.trail_check.specs.Check.{countsOk}
+-- `trail_tests::counts_ok` meets its contract, by its tests.
+use Rattle.trail_tests.specs.Check.{countsOk}
 use borrow.Author.Tests.{le-leb, lt-leb}
 use borrow.Author.Needs.{needs}
-use Rattle.trail_check.proofs.counts_ok.Statement.{statement}
-use Rattle.trail_check.proofs.counts_ok.Tie as tie
+use Rattle.trail_tests.proofs.counts_ok.Statement.{statement}
+use Rattle.trail_tests.proofs.counts_ok.Tie as tie
 
 returns : tie.Need-returns
 unfolding countsOk

@@ -1,4 +1,4 @@
--- The trail's check as tests, a test for each fact or two. `Checked` shows that they say what `GoodTrail` says.
+-- The trail's check as tests, a test for each fact or two. `Checked` in trail_check shows that they say what `GoodTrail` says.
 use Prim.Native.Nat.{ℕ, _+_, _-_, _≤_, _<_}
 use mathlib.Core.Path.{_≡_}
 use mathlib.Core.Bool.{Bool, false, not, _&&_, _||_, cond}

@@ -1,8 +1,8 @@
--- `trail_check::level_ok` meets its contract, by its tests.
+-- `trail_tests::level_ok` meets its contract, by its tests.
 use borrow.Author.Tests.{eq-eqb, ne-eqb, lt-ltb, le-ltb}
 use borrow.Author.Needs.{needs}
-use Rattle.trail_check.proofs.level_ok.Statement.{statement}
-use Rattle.trail_check.proofs.level_ok.Tie as tie
+use Rattle.trail_tests.proofs.level_ok.Statement.{statement}
+use Rattle.trail_tests.proofs.level_ok.Tie as tie
 
 returns : tie.Need-returns
 returns c = rw (lt-ltb _ _ (c .before .if1 .taken), eq-eqb _ _ (c .if2 .taken))

@@ -1,4 +1,4 @@
--- `trail_check::values_ok` meets its contract: what is known of the variables passed so far is that they pass the test, or not.
+-- `trail_tests::values_ok` meets its contract: what is known of the variables passed so far is that they pass the test, or not.
 use Prim.Native.Nat.{_≤_, _-_}
 use mathlib.Core.Path.{_≡_, refl}
 use mathlib.Core.Logic.{⊎-elim}
@@ -7,10 +7,10 @@ use borrow.Author.Needs.{needs}
 use borrow.Author.Tests.{le-leb, lt-leb}
 use lib.ListN.{length}
 use Rattle.laws.specs.Every.{every}
-use Rattle.trail_check.specs.Check.{valueOk, valuesOk}
-use Rattle.trail_check.proofs.Whole.{flag-stays, flag-falls}
-use Rattle.trail_check.proofs.values_ok.Statement.{statement}
-use Rattle.trail_check.proofs.values_ok.Tie as tie
+use Rattle.trail_tests.specs.Check.{valueOk, valuesOk}
+use Rattle.trail_tests.proofs.Flags.{flag-stays, flag-falls}
+use Rattle.trail_tests.proofs.values_ok.Statement.{statement}
+use Rattle.trail_tests.proofs.values_ok.Tie as tie
 
 abbrev Inv-loop : tie.InvT-loop
 Inv-loop values ok₀ v₀ ok v = (v ≤ length values) × (ok ≡ every (valueOk values) v)

@@ -1,0 +1,2 @@
+-- The check of a lent trail, as tests.
+pub mod Check
