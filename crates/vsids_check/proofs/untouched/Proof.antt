@@ -1,10 +1,20 @@
 -- `untouched` meets its contract: each branch is one of the test's.
-use mathlib.Core.Path.{sym, _∙_}
+use mathlib.Core.Path.{_≡_, sym, _∙_}
+use mathlib.Core.Bool.{Bool, false}
+use mathlib.Core.List.{List}
+use lib.Ieee.{Float}
+use lib.ListN.{length}
 use borrow.Author.Needs.{needs}
 use borrow.Author.Tests.{not-true, not-false, eq-eqb, ne-eqb}
-use Rattle.vsids_check.specs.Untouched.{untouched}
+use Rattle.laws.specs.Every.{every}
+use Rattle.activity.specs.Doubles.{zeroActivity}
+use Rattle.vsids_check.specs.Untouched.{activityWithin, untouched}
 use Rattle.vsids_check.proofs.untouched.Statement.{statement}
 use Rattle.vsids_check.proofs.untouched.Tie as tie
+
+-- a test of the activities that fails says that one is above 0
+above-zero : {r : Bool} (activity : List Float) → r ≡ every (activityWithin zeroActivity activity) (length activity) → r ≡ false → every (activityWithin zeroActivity activity) (length activity) ≡ false
+above-zero activity e f = sym e ∙ f
 
 returns : tie.Need-returns
 unfolding untouched
@@ -12,7 +22,7 @@ returns c = rw (ne-eqb _ _ (c .if1 .taken))
 
 returns-2 : tie.Need-returns-2
 unfolding untouched
-returns-2 c = rw (eq-eqb _ _ (c .before .before .if1 .left), sym (c .before .activities-within .ensures) ∙ not-true _ (c .if2 .taken))
+returns-2 c = rw (eq-eqb _ _ (c .before .before .if1 .left), above-zero _ (c .before .activities-within .ensures) (not-true _ (c .if2 .taken)))
 
 returns-3 : tie.Need-returns-3
 unfolding untouched
