@@ -1,3 +1,2 @@
--- A call sheet, as code runs it: from its first line on, and as a host sees it.
-pub mod First
+-- A call sheet, as a host sees it.
 pub mod Ran

@@ -14,7 +14,7 @@ use Rattle.sheet.specs.Sheet.{Ran, wrote, refused, answered, ran, result, bytes
 use Rattle.sheet.specs.Writing.{Wrote}
 use Rattle.sheet.specs.Bounds.{answered-short}
 use Rattle.sheet.specs.Running.{Room}
-use Rattle.desk.specs.First.{atFirst}
+use Rattle.desk_first.specs.First.{atFirst}
 
 -- what the host gets and the buffer are the run's
 abbrev pub Gave : (sheet out : List ℕ) → ℕ → List ℕ → Type 0

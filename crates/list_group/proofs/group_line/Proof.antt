@@ -1,4 +1,4 @@
--- `list_line::group_line` meets its contract: a line has at most half as many variables as bytes, and no group has more than 2,048.
+-- `list_group::group_line` meets its contract: a line has at most half as many variables as bytes, and no group has more than 2,048.
 use Prim.Native.Nat.{ℕ, _*_, _≤_}
 use mathlib.Core.Path.{refl}
 use mathlib.Core.List.{List}
@@ -7,8 +7,8 @@ use lib.ListN.{length}
 use Rattle.lit.specs.Numbers.{maxGroup}
 use Rattle.forms.specs.Read.{Fits}
 use borrow.Author.Needs.{needs}
-use Rattle.list_line.proofs.group_line.Statement.{statement}
-use Rattle.list_line.proofs.group_line.Tie as tie
+use Rattle.list_group.proofs.group_line.Statement.{statement}
+use Rattle.list_group.proofs.group_line.Tie as tie
 
 short-fits : {line vars : List ℕ} → length line ≤ 2 * length vars → Fits line vars
 short-fits h = record { fits = λ k few short. omega (arith, h, short) }

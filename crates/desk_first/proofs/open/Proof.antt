@@ -1,14 +1,14 @@
--- `desk::open` meets its contract: a first line with too many variables is refused; else it is answered, and so are the lines behind it.
+-- `desk_first::open` meets its contract: a first line with too many variables is refused; else it is answered, and so are the lines behind it.
 use mathlib.Core.Path.{_∙_}
 use Prim.Native.Nat.{_≤_, _<_}
 use native.Mathlib.Omega.{arith}
 use Rattle.lit.specs.Numbers.{maxVars}
 use Rattle.sheet.specs.Running.{linesFrom}
 use Rattle.sheet.specs.Steps.{line-inside}
-use Rattle.desk.specs.First.{first-fits, first-room, first-refused, first-opened}
+use Rattle.desk_first.specs.First.{first-fits, first-room, first-refused, first-opened}
 use borrow.Author.Needs.{needs}
-use Rattle.desk.proofs.open.Statement.{statement}
-use Rattle.desk.proofs.open.Tie as tie
+use Rattle.desk_first.proofs.open.Statement.{statement}
+use Rattle.desk_first.proofs.open.Tie as tie
 
 answer-requires : tie.Need-answer-requires
 answer-requires c κs = let s = c .before .before .before .before .before in first-fits (s .pre .0) (s .pre .1) 4 (omega arith)

@@ -1,12 +1,12 @@
--- `list_line::group_with` meets its contract: the group that was read moves; a line that is none is refused.
+-- `list_group::group_with` meets its contract: the group that was read moves; a line that is none is refused.
 use Prim.Native.Nat.{ℕ, _≤_}
 use mathlib.Core.Path.{_≡_, sym, _∙_}
 use native.Mathlib.Omega.{arith}
 use lib.Seq.{length-take-le}
 use Rattle.sheet.specs.Called.{group-within, group-refused, group-answered}
 use borrow.Author.Needs.{needs}
-use Rattle.list_line.proofs.group_with.Statement.{statement}
-use Rattle.list_line.proofs.group_with.Tie as tie
+use Rattle.list_group.proofs.group_with.Statement.{statement}
+use Rattle.list_group.proofs.group_with.Tie as tie
 
 -- the stamps and the order have room for the variables that were read
 in-scratch : {k vars vars₀ scratch : ℕ} → k ≤ vars → vars ≡ vars₀ → scratch ≡ vars₀ → k ≤ scratch

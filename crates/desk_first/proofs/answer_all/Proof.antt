@@ -1,13 +1,13 @@
--- `desk::answer_all` meets its contract: what was read of the first line says how it is answered.
+-- `desk_first::answer_all` meets its contract: what was read of the first line says how it is answered.
 use mathlib.Core.Path.{sym}
 use native.Mathlib.Omega.{arith}
 use lib.Seq.{length-take-le}
 use Rattle.text.specs.Text.{newline}
 use Rattle.text.specs.Laws.{find-length}
-use Rattle.desk.specs.First.{first-fits, first-done}
+use Rattle.desk_first.specs.First.{first-fits, first-done}
 use borrow.Author.Needs.{needs}
-use Rattle.desk.proofs.answer_all.Statement.{statement}
-use Rattle.desk.proofs.answer_all.Tie as tie
+use Rattle.desk_first.proofs.answer_all.Statement.{statement}
+use Rattle.desk_first.proofs.answer_all.Tie as tie
 
 slice-aggregate-read-first : tie.Need-slice-aggregate-read-first
 slice-aggregate-read-first c =
