@@ -94,11 +94,11 @@ module _ (n m : ℕ) (lits values levels reasons trail opened : List ℕ) (s : L
         (out _ _ _ (λ small q. omega (arith, small, q, z, e)), out _ _ _ (λ small q. omega (arith, small, q, h, length-map ns (λ (d : Node). d .next))))
 
     -- what it answers for the first, it answers for all
-    pub first-decide : (values' levels' reasons' trail' opened' next' prev' ts' : List ℕ) (s' : ListState) (ms : List Node) (status reply : ℕ)
+    pub first-for-all : (values' levels' reasons' trail' opened' next' prev' ts' : List ℕ) (s' : ListState) (ms : List Node) (status reply : ℕ)
         → (nexts ms ≡ next' ++ drop k (nexts ns)) × (prevs ms ≡ prev' ++ drop k (prevs ns)) × (tss ms ≡ ts' ++ drop k (tss ns))
         → Answered (answers first) first status reply (sessionOf n m lits values' levels' reasons' trail' opened' next' prev' ts' s')
         → Answered (answers all) all status reply (sessionOf n m lits values' levels' reasons' trail' opened' (nexts ms) (prevs ms) (tss ms) s')
-    first-decide values' levels' reasons' trail' opened' next' prev' ts' s' ms status reply h a = by-cases (decLt (length ns) room)
+    first-for-all values' levels' reasons' trail' opened' next' prev' ts' s' ms status reply h a = by-cases (decLt (length ns) room)
         (λ b.
         let x = few b (λ (d : Node). d .next) in
         let y = few b (λ (d : Node). d .prev) in

@@ -31,7 +31,7 @@ use denote.Triple.Clauses.{ensured, lasts}
 use denote.Triple.Spec.{tripleOf}
 use denote.Triple.Statement.{Contract, Triple}
 use denote.Triple.Walked.{says}
-use Rattle.nodes.specs.Nodes.{nexts, prevs, tss, Fronts}
+use Rattle.nodes.specs.Nodes.{nexts, prevs, tss, FlatRoom}
 use Rattle.nodes.specs.declared.Node.{Node}
 use Rattle.nodes.proofs.Node as T
 use Rattle.nodes.proofs.Lending.{LentShared, shares-again, shared-back, lends-cells, cells-come-back}
@@ -47,7 +47,7 @@ Gathering 𝓤 H A mem run = tripleOf 𝓤 H A gather.signature (gather.spec �
 
 module _ {M : Type 1} (𝓤 : URA M) (H : Heap 𝓤) (A : Atoms 𝓤) (W : Given 𝓤 H A) (mem : Memory → SProp 𝓤) (run : Routine → Fun 𝓤) where
   -- what the callee asks
-  goes : (b₀ o₀ : ℕ) (l₀ : List Node) (c₀ : ℕ) (ν₀ : ℕ) (δ₀ : GName) (b₁ : ℕ) (l₁ : List ℕ) (c₁ : ℕ) (ν₁ : ℕ) (δ₁ : GName) (b₂ : ℕ) (l₂ : List ℕ) (c₂ : ℕ) (ν₂ : ℕ) (δ₂ : GName) (b₃ : ℕ) (l₃ : List ℕ) (c₃ : ℕ) (ν₃ : ℕ) (δ₃ : GName) → (Fronts (l₀) (l₁) (l₂) (l₃))
+  goes : (b₀ o₀ : ℕ) (l₀ : List Node) (c₀ : ℕ) (ν₀ : ℕ) (δ₀ : GName) (b₁ : ℕ) (l₁ : List ℕ) (c₁ : ℕ) (ν₁ : ℕ) (δ₁ : GName) (b₂ : ℕ) (l₂ : List ℕ) (c₂ : ℕ) (ν₂ : ℕ) (δ₂ : GName) (b₃ : ℕ) (l₃ : List ℕ) (c₃ : ℕ) (ν₃ : ℕ) (δ₃ : GName) → (FlatRoom (l₀) (l₁) (l₂) (l₃))
       → ent 𝓤 (⋆ 𝓤 H A ((‵ (flft (ν₀ ∷ []) fullShare) ⊛ ‵ (ShrSlice (named 0) (ν₀ ∷ []) T.the-row .own (at-list b₀ o₀ δ₀ l₀) (sliceVal (b₀, o₀) c₀ ∷ [])) ⊛ ‵ (flft (ν₁ ∷ []) fullShare) ⊛ ‵ (MutSlice (named 1) (ν₁ ∷ []) u32 .own (at-list b₁ 0 δ₁ l₁) (sliceVal (b₁, 0) c₁ ∷ [])) ⊛ ‵ (flft (ν₂ ∷ []) fullShare) ⊛ ‵ (MutSlice (named 2) (ν₂ ∷ []) u32 .own (at-list b₂ 0 δ₂ l₂) (sliceVal (b₂, 0) c₂ ∷ [])) ⊛ ‵ (flft (ν₃ ∷ []) fullShare) ⊛ ‵ (MutSlice (named 3) (ν₃ ∷ []) u64 .own (at-list b₃ 0 δ₃ l₃) (sliceVal (b₃, 0) c₃ ∷ []))) ∷ [])) ((Gathering 𝓤 H A mem run) .pre ((((ν₀ ∷ []), ((ν₁ ∷ []), ((ν₂ ∷ []), ((ν₃ ∷ []), tt)))), (fullShare, (fullShare, (fullShare, (fullShare, tt)))), tt, (at-list b₀ o₀ δ₀ l₀, (at-list b₁ 0 δ₁ l₁, (at-list b₂ 0 δ₂ l₂, (at-list b₃ 0 δ₃ l₃, tt)))), (sliceVal (b₀, o₀) c₀ ∷ [], (sliceVal (b₁, 0) c₁ ∷ [], (sliceVal (b₂, 0) c₂ ∷ [], (sliceVal (b₃, 0) c₃ ∷ [], tt))))), tt))
   goes b₀ o₀ l₀ c₀ ν₀ δ₀ b₁ l₁ c₁ ν₁ δ₁ b₂ l₂ c₂ ν₂ δ₂ b₃ l₃ c₃ ν₃ δ₃ asked =
       qed W ((‵ (flft (ν₀ ∷ []) fullShare) ⊛ ‵ (ShrSlice (named 0) (ν₀ ∷ []) T.the-row .own (at-list b₀ o₀ δ₀ l₀) (sliceVal (b₀, o₀) c₀ ∷ [])) ⊛ ‵ (flft (ν₁ ∷ []) fullShare) ⊛ ‵ (MutSlice (named 1) (ν₁ ∷ []) u32 .own (at-list b₁ 0 δ₁ l₁) (sliceVal (b₁, 0) c₁ ∷ [])) ⊛ ‵ (flft (ν₂ ∷ []) fullShare) ⊛ ‵ (MutSlice (named 2) (ν₂ ∷ []) u32 .own (at-list b₂ 0 δ₂ l₂) (sliceVal (b₂, 0) c₂ ∷ [])) ⊛ ‵ (flft (ν₃ ∷ []) fullShare) ⊛ ‵ (MutSlice (named 3) (ν₃ ∷ []) u64 .own (at-list b₃ 0 δ₃ l₃) (sliceVal (b₃, 0) c₃ ∷ []))) ∷ []) ∵
@@ -64,7 +64,7 @@ module _ {M : Type 1} (𝓤 : URA M) (H : Heap 𝓤) (A : Atoms 𝓤) (W : Given
 
 module _ {M : Type 1} {𝓤 : URA M} {H : Heap 𝓤} {A : Atoms 𝓤} {K : Type 0} {W : Given 𝓤 H A} {Γ : List (Item 𝓤)} {E : Env 𝓤 H} {C : Calls 𝓤 H} {Λ : Loops 𝓤 H} {p : Post 𝓤 H} {d : Place} {ops : List Operand} {rest : Body} where
   pub gathers : K → (mem : Memory → SProp 𝓤) (run : Routine → Fun 𝓤) → FmC 𝓤 H (W .laws) C → Triple 𝓤 (C #nodes·gather) (Gathering 𝓤 H A mem run)
-      → (κ₀ : Lft) (q₀ : Share) (γ₀ : GName) (b₀ o₀ : ℕ) (l₀ : List Node) (c₀ : ℕ) → length l₀ ≡ c₀ → Room T.the-row c₀ → (b₁ : ℕ) (l₁ : List ℕ) (c₁ : ℕ) → length l₁ ≡ c₁ → Room u32 c₁ → (b₂ : ℕ) (l₂ : List ℕ) (c₂ : ℕ) → length l₂ ≡ c₂ → Room u32 c₂ → (b₃ : ℕ) (l₃ : List ℕ) (c₃ : ℕ) → length l₃ ≡ c₃ → Room u64 c₃ → (Fronts (l₀) (l₁) (l₂) (l₃))
+      → (κ₀ : Lft) (q₀ : Share) (γ₀ : GName) (b₀ o₀ : ℕ) (l₀ : List Node) (c₀ : ℕ) → length l₀ ≡ c₀ → Room T.the-row c₀ → (b₁ : ℕ) (l₁ : List ℕ) (c₁ : ℕ) → length l₁ ≡ c₁ → Room u32 c₁ → (b₂ : ℕ) (l₂ : List ℕ) (c₂ : ℕ) → length l₂ ≡ c₂ → Room u32 c₂ → (b₃ : ℕ) (l₃ : List ℕ) (c₃ : ℕ) → length l₃ ≡ c₃ → Room u64 c₃ → (FlatRoom (l₀) (l₁) (l₂) (l₃))
       → ((ν₀ : ℕ) (δ₀ : GName) (ν₁ : ℕ) (δ₁ : GName) (ν₂ : ℕ) (δ₂ : GName) (ν₃ : ℕ) (δ₃ : GName) → Opds K W (raw ((Gathering 𝓤 H A mem run) .pre ((((ν₀ ∷ []), ((ν₁ ∷ []), ((ν₂ ∷ []), ((ν₃ ∷ []), tt)))), (fullShare, (fullShare, (fullShare, (fullShare, tt)))), tt, (at-list b₀ o₀ δ₀ l₀, (at-list b₁ 0 δ₁ l₁, (at-list b₂ 0 δ₂ l₂, (at-list b₃ 0 δ₃ l₃, tt)))), (sliceVal (b₀, o₀) c₀ ∷ [], (sliceVal (b₁, 0) c₁ ∷ [], (sliceVal (b₂, 0) c₂ ∷ [], (sliceVal (b₃, 0) c₃ ∷ [], tt))))), tt)) ∷ ‵ (LentShared T.the-row κ₀ (ν₀ ∷ []) q₀ γ₀ b₀ o₀ l₀) ∷ ‵ (flent (ν₁ ∷ []) (Held u32 (length l₁) b₁ 0 δ₁)) ∷ ‵ (flent (ν₂ ∷ []) (Held u32 (length l₂) b₂ 0 δ₂)) ∷ ‵ (flent (ν₃ ∷ []) (Held u64 (length l₃) b₃ 0 δ₃)) ∷ Γ) E ops (sliceVal (b₀, o₀) c₀ ∷ sliceVal (b₁, 0) c₁ ∷ sliceVal (b₂, 0) c₂ ∷ sliceVal (b₃, 0) c₃ ∷ []))
       → ((w₁ : List ℕ) → (w₂ : List ℕ) → (w₃ : List ℕ) → length w₁ ≡ c₁ → length w₂ ≡ c₂ → length w₃ ≡ c₃ → ((w₁ ≡ take′ (length l₁) (nexts (l₀))) × (w₂ ≡ take′ (length l₁) (prevs (l₀))) × (w₃ ≡ take′ (length l₁) (tss (l₀)))) → Seq K W (‵ (MutSlice (named 0) κ₀ T.the-row .own (at-list b₀ o₀ γ₀ (l₀)) (sliceVal (b₀, o₀) c₀ ∷ [])) ∷ ‵ (flft κ₀ q₀) ∷ ‵ (cells (mem′ u32) (w₁) b₁ 0) ∷ ‵ (cells (mem′ u32) (w₂) b₂ 0) ∷ ‵ (cells (mem′ u64) (w₃) b₃ 0) ∷ Γ) (lands C Λ E d vunit rest p))
       → Seq K W (‵ (MutSlice (named 0) κ₀ T.the-row .own (at-list b₀ o₀ γ₀ (l₀)) (sliceVal (b₀, o₀) c₀ ∷ [])) ∷ ‵ (flft κ₀ q₀) ∷ ‵ (cells (mem′ u32) (l₁) b₁ 0) ∷ ‵ (cells (mem′ u32) (l₂) b₂ 0) ∷ ‵ (cells (mem′ u64) (l₃) b₃ 0) ∷ Γ) (runs C Λ E (seq (call #nodes·gather ops d) rest) p)

@@ -16,7 +16,7 @@ use denote.Array.{arrayVal}
 use denote.Plain.{uint-lawful}
 use denote.Builtin.{u32, u64}
 use denote.Slice.{Room}
-use Rattle.nodes.specs.Nodes.{Fronts, room, roomFor, room-enough}
+use Rattle.nodes.specs.Nodes.{FlatRoom, room, roomFor, room-enough}
 use Rattle.nodes.specs.declared.Node.{Node}
 use Rattle.nodes.proofs.LocalArray.{repeat-typed}
 
@@ -52,5 +52,5 @@ module _ (ns : List Node) {k : ℕ} (fits : k ≡ roomFor (length ns)) where
       less : (m : ℕ) → m ≤ room → m * 8 < 2 ^ 63
       less m l = omega arith
 
-  pub fronts : {v₁ v₂ v₃ : List ℕ} → length v₁ ≡ k → length v₂ ≡ k → length v₃ ≡ k → Fronts ns v₁ v₂ v₃
+  pub fronts : {v₁ v₂ v₃ : List ℕ} → length v₁ ≡ k → length v₂ ≡ k → length v₃ ≡ k → FlatRoom ns v₁ v₂ v₃
   fronts e₁ e₂ e₃ = record { enough = subst (λ (m : ℕ). m ≤ length ns) (sym e₁) (few .0); prev-long = e₂ ∙ sym e₁; ts-long = e₃ ∙ sym e₁ }

@@ -29,7 +29,7 @@ use denote.Triple.Clauses.{ensured, lasts}
 use denote.Triple.Spec.{tripleOf}
 use denote.Triple.Statement.{Contract, Triple}
 use denote.Triple.Walked.{says}
-use Rattle.nodes.specs.Nodes.{nexts, prevs, tss, Fronts}
+use Rattle.nodes.specs.Nodes.{nexts, prevs, tss, FlatRoom}
 use Rattle.nodes.specs.declared.Node.{Node}
 use Rattle.nodes.proofs.Node as T
 use Rattle.nodes.proofs.Lending.{part, shares-local, local-back}
@@ -45,7 +45,7 @@ Scattering 𝓤 H A mem run = tripleOf 𝓤 H A scatter.signature (scatter.spec 
 
 module _ {M : Type 1} (𝓤 : URA M) (H : Heap 𝓤) (A : Atoms 𝓤) (W : Given 𝓤 H A) (mem : Memory → SProp 𝓤) (run : Routine → Fun 𝓤) where
   -- what the callee asks
-  goes : (b₀ o₀ : ℕ) (l₀ : List Node) (c₀ : ℕ) (κ₀ : Lft) (q₀ : Share) (γ₀ : GName) (b₁ : ℕ) (l₁ : List ℕ) (c₁ : ℕ) (ν₁ : ℕ) (δ₁ : GName) (b₂ : ℕ) (l₂ : List ℕ) (c₂ : ℕ) (ν₂ : ℕ) (δ₂ : GName) (b₃ : ℕ) (l₃ : List ℕ) (c₃ : ℕ) (ν₃ : ℕ) (δ₃ : GName) → (Fronts (l₀) (l₁) (l₂) (l₃))
+  goes : (b₀ o₀ : ℕ) (l₀ : List Node) (c₀ : ℕ) (κ₀ : Lft) (q₀ : Share) (γ₀ : GName) (b₁ : ℕ) (l₁ : List ℕ) (c₁ : ℕ) (ν₁ : ℕ) (δ₁ : GName) (b₂ : ℕ) (l₂ : List ℕ) (c₂ : ℕ) (ν₂ : ℕ) (δ₂ : GName) (b₃ : ℕ) (l₃ : List ℕ) (c₃ : ℕ) (ν₃ : ℕ) (δ₃ : GName) → (FlatRoom (l₀) (l₁) (l₂) (l₃))
       → ent 𝓤 (⋆ 𝓤 H A ((‵ (flft κ₀ q₀) ⊛ ‵ (MutSlice (named 0) κ₀ T.the-row .own (at-list b₀ o₀ γ₀ l₀) (sliceVal (b₀, o₀) c₀ ∷ [])) ⊛ ‵ (flft (ν₁ ∷ []) fullShare) ⊛ ‵ (ShrSlice (named 1) (ν₁ ∷ []) u32 .own (at-list b₁ 0 δ₁ l₁) (sliceVal (b₁, 0) c₁ ∷ [])) ⊛ ‵ (flft (ν₂ ∷ []) fullShare) ⊛ ‵ (ShrSlice (named 2) (ν₂ ∷ []) u32 .own (at-list b₂ 0 δ₂ l₂) (sliceVal (b₂, 0) c₂ ∷ [])) ⊛ ‵ (flft (ν₃ ∷ []) fullShare) ⊛ ‵ (ShrSlice (named 3) (ν₃ ∷ []) u64 .own (at-list b₃ 0 δ₃ l₃) (sliceVal (b₃, 0) c₃ ∷ []))) ∷ [])) ((Scattering 𝓤 H A mem run) .pre (((κ₀, ((ν₁ ∷ []), ((ν₂ ∷ []), ((ν₃ ∷ []), tt)))), (q₀, (fullShare, (fullShare, (fullShare, tt)))), tt, (at-list b₀ o₀ γ₀ l₀, (at-list b₁ 0 δ₁ l₁, (at-list b₂ 0 δ₂ l₂, (at-list b₃ 0 δ₃ l₃, tt)))), (sliceVal (b₀, o₀) c₀ ∷ [], (sliceVal (b₁, 0) c₁ ∷ [], (sliceVal (b₂, 0) c₂ ∷ [], (sliceVal (b₃, 0) c₃ ∷ [], tt))))), tt))
   goes b₀ o₀ l₀ c₀ κ₀ q₀ γ₀ b₁ l₁ c₁ ν₁ δ₁ b₂ l₂ c₂ ν₂ δ₂ b₃ l₃ c₃ ν₃ δ₃ asked =
       qed W ((‵ (flft κ₀ q₀) ⊛ ‵ (MutSlice (named 0) κ₀ T.the-row .own (at-list b₀ o₀ γ₀ l₀) (sliceVal (b₀, o₀) c₀ ∷ [])) ⊛ ‵ (flft (ν₁ ∷ []) fullShare) ⊛ ‵ (ShrSlice (named 1) (ν₁ ∷ []) u32 .own (at-list b₁ 0 δ₁ l₁) (sliceVal (b₁, 0) c₁ ∷ [])) ⊛ ‵ (flft (ν₂ ∷ []) fullShare) ⊛ ‵ (ShrSlice (named 2) (ν₂ ∷ []) u32 .own (at-list b₂ 0 δ₂ l₂) (sliceVal (b₂, 0) c₂ ∷ [])) ⊛ ‵ (flft (ν₃ ∷ []) fullShare) ⊛ ‵ (ShrSlice (named 3) (ν₃ ∷ []) u64 .own (at-list b₃ 0 δ₃ l₃) (sliceVal (b₃, 0) c₃ ∷ []))) ∷ []) ∵
@@ -62,7 +62,7 @@ module _ {M : Type 1} (𝓤 : URA M) (H : Heap 𝓤) (A : Atoms 𝓤) (W : Given
 
 module _ {M : Type 1} {𝓤 : URA M} {H : Heap 𝓤} {A : Atoms 𝓤} {K : Type 0} {W : Given 𝓤 H A} {Γ : List (Item 𝓤)} {E : Env 𝓤 H} {C : Calls 𝓤 H} {Λ : Loops 𝓤 H} {p : Post 𝓤 H} {d : Place} {ops : List Operand} {rest : Body} where
   pub scatters : K → (mem : Memory → SProp 𝓤) (run : Routine → Fun 𝓤) → FmC 𝓤 H (W .laws) C → Triple 𝓤 (C #nodes·scatter) (Scattering 𝓤 H A mem run)
-      → (κ₀ : Lft) (q₀ : Share) (γ₀ : GName) (b₀ o₀ : ℕ) (l₀ : List Node) (c₀ : ℕ) → length l₀ ≡ c₀ → Room T.the-row c₀ → (b₁ : ℕ) (l₁ : List ℕ) (c₁ : ℕ) → length l₁ ≡ c₁ → Room u32 c₁ → (b₂ : ℕ) (l₂ : List ℕ) (c₂ : ℕ) → length l₂ ≡ c₂ → Room u32 c₂ → (b₃ : ℕ) (l₃ : List ℕ) (c₃ : ℕ) → length l₃ ≡ c₃ → Room u64 c₃ → (Fronts (l₀) (l₁) (l₂) (l₃))
+      → (κ₀ : Lft) (q₀ : Share) (γ₀ : GName) (b₀ o₀ : ℕ) (l₀ : List Node) (c₀ : ℕ) → length l₀ ≡ c₀ → Room T.the-row c₀ → (b₁ : ℕ) (l₁ : List ℕ) (c₁ : ℕ) → length l₁ ≡ c₁ → Room u32 c₁ → (b₂ : ℕ) (l₂ : List ℕ) (c₂ : ℕ) → length l₂ ≡ c₂ → Room u32 c₂ → (b₃ : ℕ) (l₃ : List ℕ) (c₃ : ℕ) → length l₃ ≡ c₃ → Room u64 c₃ → (FlatRoom (l₀) (l₁) (l₂) (l₃))
       → ((ν₁ : ℕ) (δ₁ : GName) (ν₂ : ℕ) (δ₂ : GName) (ν₃ : ℕ) (δ₃ : GName) → Opds K W (raw ((Scattering 𝓤 H A mem run) .pre (((κ₀, ((ν₁ ∷ []), ((ν₂ ∷ []), ((ν₃ ∷ []), tt)))), (q₀, (fullShare, (fullShare, (fullShare, tt)))), tt, (at-list b₀ o₀ γ₀ l₀, (at-list b₁ 0 δ₁ l₁, (at-list b₂ 0 δ₂ l₂, (at-list b₃ 0 δ₃ l₃, tt)))), (sliceVal (b₀, o₀) c₀ ∷ [], (sliceVal (b₁, 0) c₁ ∷ [], (sliceVal (b₂, 0) c₂ ∷ [], (sliceVal (b₃, 0) c₃ ∷ [], tt))))), tt)) ∷ ‵ (flent (ν₁ ∷ []) (part 𝓤 H A W u32 l₁ b₁ 0)) ∷ ‵ (flent (ν₂ ∷ []) (part 𝓤 H A W u32 l₂ b₂ 0)) ∷ ‵ (flent (ν₃ ∷ []) (part 𝓤 H A W u64 l₃ b₃ 0)) ∷ Γ) E ops (sliceVal (b₀, o₀) c₀ ∷ sliceVal (b₁, 0) c₁ ∷ sliceVal (b₂, 0) c₂ ∷ sliceVal (b₃, 0) c₃ ∷ []))
       → ((w₀ : List Node) → length w₀ ≡ c₀ → ((nexts (w₀) ≡ l₁ ++ drop′ (length l₁) (nexts l₀)) × (prevs (w₀) ≡ l₂ ++ drop′ (length l₁) (prevs l₀)) × (tss (w₀) ≡ l₃ ++ drop′ (length l₁) (tss l₀))) → Seq K W (‵ (finally T.the-row γ₀ (w₀)) ∷ ‵ (flft κ₀ q₀) ∷ ‵ (cells (mem′ u32) (l₁) b₁ 0) ∷ ‵ (cells (mem′ u32) (l₂) b₂ 0) ∷ ‵ (cells (mem′ u64) (l₃) b₃ 0) ∷ Γ) (lands C Λ E d vunit rest p))
       → Seq K W (‵ (MutSlice (named 0) κ₀ T.the-row .own (at-list b₀ o₀ γ₀ (l₀)) (sliceVal (b₀, o₀) c₀ ∷ [])) ∷ ‵ (flft κ₀ q₀) ∷ ‵ (cells (mem′ u32) (l₁) b₁ 0) ∷ ‵ (cells (mem′ u32) (l₂) b₂ 0) ∷ ‵ (cells (mem′ u64) (l₃) b₃ 0) ∷ Γ) (runs C Λ E (seq (call #nodes·scatter ops d) rest) p)

@@ -21,7 +21,7 @@ abbrev pub tss : List Node → List ℕ
 tss ns = map (λ (n : Node). n .ts) ns
 
 -- three flat lists of one length, and there are nodes enough
-pub record Fronts (ns : List Node) (next prev ts : List ℕ) : Type 0 where
+pub record FlatRoom (ns : List Node) (next prev ts : List ℕ) : Type 0 where
   pub enough : length next ≤ length ns
   pub prev-long : length prev ≡ length next
   pub ts-long : length ts ≡ length next

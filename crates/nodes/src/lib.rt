@@ -2,7 +2,7 @@
 ghost use mathlib.Core.Path.{_≡_};
 ghost use mathlib.Core.List.{_++_};
 ghost use lib.ListN.{length, take, drop};
-ghost use Rattle.nodes.specs.Nodes.{nexts, prevs, tss, Fronts, roomFor};
+ghost use Rattle.nodes.specs.Nodes.{nexts, prevs, tss, FlatRoom, roomFor};
 use lit::MAX_VARS;
 
 // A variable's place in the list: its neighbours and its stamp.
@@ -27,7 +27,7 @@ pub fn room_for(len: usize) -> usize
 
 // Reads the fields of the first nodes, each into a slice of its own.
 pub fn gather(nodes: &[Node], next: &mut [u32], prev: &mut [u32], ts: &mut [u64])
-    requires { ⌜ Fronts (now nodes) (now next) (now prev) (now ts) ⌝ }
+    requires { ⌜ FlatRoom (now nodes) (now next) (now prev) (now ts) ⌝ }
     ensures { λ _. ⌜ (now (next .exit) ≡ take (length (now (next .entry))) (nexts (now (nodes .entry)))) × (now (prev .exit) ≡ take (length (now (next .entry))) (prevs (now (nodes .entry)))) × (now (ts .exit) ≡ take (length (now (next .entry))) (tss (now (nodes .entry)))) ⌝ }
 {
     let mut i: usize = 0;
@@ -42,7 +42,7 @@ pub fn gather(nodes: &[Node], next: &mut [u32], prev: &mut [u32], ts: &mut [u64]
 
 // Writes the first nodes, each with its fields from the flat slices; the others stay.
 pub fn scatter(nodes: &mut [Node], next: &[u32], prev: &[u32], ts: &[u64])
-    requires { ⌜ Fronts (now nodes) (now next) (now prev) (now ts) ⌝ }
+    requires { ⌜ FlatRoom (now nodes) (now next) (now prev) (now ts) ⌝ }
     ensures { λ _. ⌜ (nexts (now (nodes .exit)) ≡ now (next .entry) ++ drop (length (now (next .entry))) (nexts (now (nodes .entry)))) × (prevs (now (nodes .exit)) ≡ now (prev .entry) ++ drop (length (now (next .entry))) (prevs (now (nodes .entry)))) × (tss (now (nodes .exit)) ≡ now (ts .entry) ++ drop (length (now (next .entry))) (tss (now (nodes .entry)))) ⌝ }
 {
     let mut i: usize = 0;
