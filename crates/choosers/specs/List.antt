@@ -46,7 +46,8 @@ pub record ListOk (n : ℕ) (values : List ℕ) (on : ℕ → Bool) (l : Vmtf) :
   pub order : List ℕ
   pub good : GoodList n order l
 
-below-each : (n : ℕ) (vs : List ℕ) → below n vs ≡ true → Vars n vs
+-- each variable of a group that passed its test is one of n
+pub below-each : (n : ℕ) (vs : List ℕ) → below n vs ≡ true → Vars n vs
 unfolding below
 below-each n [] e i h = absurd (omega arith)
 below-each n (x ∷ vs) e zero h = ltb-true x n (and-left (ltb x n) (below n vs) e)

@@ -19,7 +19,7 @@ asks call vars stamps order = record { call = call; vars = vars; stamps = stamps
 abbrev pub asked : Asked → Call
 asked a = callOf (a .call) (a .vars)
 
--- a call on the memory of a session that is lent with sizes and a clause list of its own: N, the stated number of clauses, the literals with
+-- DECISIONS 20: a call on the memory of a session that is lent with sizes and a clause list of its own: N, the stated number of clauses, the literals with
 -- their stated number, and the ends
 pub record Elsewhere : Type 0 where
   pub n : ℕ

@@ -7,7 +7,7 @@ use Prim.Native.Nat.{ℕ, _+_, _-_, _<_, _≤_}
 use native.Mathlib.Omega.{arith}
 use lib.Dec.{eqb}
 use lib.ListN.{length, getD, take, drop, length-drop}
-use lib.Seq.{take-all, drop-drop}
+use lib.Seq.{drop-drop}
 use borrow.Author.Tests.{eq-eqb, ne-eqb}
 use Rattle.laws.specs.Tests.{true-or-false}
 use Rattle.text.specs.Text.{tab, find, splitFrom, fields, number}
@@ -66,10 +66,6 @@ module _ (line : List ℕ) where
 
       pub two-behind : ((f bs : List ℕ) → find tab bs < length bs → read f bs ≡ none) → (end ≡ length line → ⊥) → given (behind (drop 1 line)) (two read) ≡ read (take (end - 2) (drop 2 line)) (drop (end + 1) line)
       two-behind h n = rw e (between read h (rw e at n))
-
--- a part up to the end is what is left
-pub to-end : (n : ℕ) (l : List ℕ) → take (length l - n) (drop n l) ≡ drop n l
-to-end n l = take-all (length l - n) (drop n l) (omega (arith, length-drop n l))
 
 -- none of the readings takes a tab
 pub decay-tab : (bs : List ℕ) → find tab bs < length bs → decayIn bs ≡ none

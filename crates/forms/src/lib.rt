@@ -258,7 +258,7 @@ pub fn read_call(line: &[u8]) -> Read
 }
 
 // Lengths of scratch for a group: each variable takes two bytes of its line at least, so a short line needs little.
-// `MANY` is enough for any line.
+// `MANY` is enough for any group.
 pub const FEW: usize = 64;
 
 pub const SOME: usize = 512;

@@ -16,7 +16,7 @@ use Rattle.lit.specs.Lits.{index}
 use Rattle.formula.specs.Clauses.{start, noFallAt, endsOk, listOk, varBelow, varsBelow, clausesOk}
 
 -- "At most 2,048 clauses and 8,192 literals; ends never fall; the last equals the literal count, which is 0 without clauses"
-pub record GoodList (lits ends : List ℕ) : Type 0 where
+pub record GoodShape (lits ends : List ℕ) : Type 0 where
   pub few-clauses : length ends ≤ maxClauses
   pub few-literals : length lits ≤ maxLiterals
   pub never-fall : (i j : ℕ) → i < j → j < length ends → getD ends i 0 ≤ getD ends j 0
@@ -25,7 +25,7 @@ pub record GoodList (lits ends : List ℕ) : Type 0 where
 
 -- "variables are below N"
 pub record GoodClauses (n : ℕ) (lits ends : List ℕ) : Type 0 where
-  pub list : GoodList lits ends
+  pub list : GoodShape lits ends
   pub below : (i : ℕ) → i < length lits → index (getD lits i 0) < n
 
 -- a clause but the first starts where the one before it ends
@@ -46,23 +46,23 @@ climbs ends all i (suc j) h b =
     omega arith))
 
 -- and back: none is below the one before it, and the last is the literal count
-pub no-fall : {lits ends : List ℕ} → GoodList lits ends → (i : ℕ) → i < length ends → noFallAt ends i ≡ true
+pub no-fall : {lits ends : List ℕ} → GoodShape lits ends → (i : ℕ) → i < length ends → noFallAt ends i ≡ true
 unfolding noFallAt
 no-fall {lits} {ends} g zero b = leb·zero (getD ends 0 0)
 no-fall g (suc i) b = le-leb _ _ (g .never-fall i (suc i) (omega arith) b)
 
-pub last-start : {lits ends : List ℕ} → GoodList lits ends → start ends (length ends) ≡ length lits
+pub last-start : {lits ends : List ℕ} → GoodShape lits ends → start ends (length ends) ≡ length lits
 last-start {lits} {ends} g =
     by-cases (ℕ-discrete (length ends) 0)
     (λ none. sym (g .no-clauses none ∙ rw none))
     (λ some. start-later ends (length ends) (omega arith) ∙ g .last-end (omega arith))
 
 -- With variables left aside, the check asks the first of these records.
-pub list-facts : (lits ends : List ℕ) → (listOk lits ends ≡ true) ↔ GoodList lits ends
+pub list-facts : (lits ends : List ℕ) → (listOk lits ends ≡ true) ↔ GoodShape lits ends
 unfolding listOk endsOk
 list-facts lits ends = (forth, back)
   where
-    forth : listOk lits ends ≡ true → GoodList lits ends
+    forth : listOk lits ends ≡ true → GoodShape lits ends
     forth e =
         let limits = and-left (leb (length ends) maxClauses && leb (length lits) maxLiterals) _ e in
         let right = and-right (leb (length ends) maxClauses && leb (length lits) maxLiterals) _ e in
@@ -76,7 +76,7 @@ list-facts lits ends = (forth, back)
           no-clauses = λ h. sym last ∙ rw h;
         }
 
-    back : GoodList lits ends → listOk lits ends ≡ true
+    back : GoodShape lits ends → listOk lits ends ≡ true
     back g =
         and-both (and-both (le-leb _ _ (g .few-clauses)) (le-leb _ _ (g .few-literals)))
         (and-both (every-all (noFallAt ends) (length ends) (no-fall g)) (eq-eqb _ _ (last-start g)))

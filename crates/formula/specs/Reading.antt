@@ -11,9 +11,9 @@ use lib.ListN.{length, getD, drop, length-take, length-drop, take-append-drop, d
 use lib.Seq.{getD-take, getD-drop, drop-cons, drop-drop}
 use Rattle.lit.specs.Lits.{index}
 use Rattle.formula.specs.Clauses.{start, part, clause, clauses, clausesFrom, noFallAt, ClauseAt}
-use Rattle.formula.specs.Good.{GoodList, GoodClauses, no-fall, last-start}
+use Rattle.formula.specs.Good.{GoodShape, GoodClauses, no-fall, last-start}
 
-module _ {lits ends : List ℕ} (g : GoodList lits ends) (i : ℕ) (one : i < length ends) where
+module _ {lits ends : List ℕ} (g : GoodShape lits ends) (i : ℕ) (one : i < length ends) where
   -- no end is past the last literal
   within : getD ends i 0 ≤ length lits
   within =
@@ -67,6 +67,6 @@ join-from from lits (e ∷ es) up last =
     let rest : drop (e - from) (drop from lits) ≡ drop e lits = drop-drop (e - from) from lits ∙ rw at in
     rw (join-from e lits es (λ i h. up (suc i) (omega arith)) last, ← rest) (take-append-drop (e - from) (drop from lits))
 
-pub join-clauses : {lits ends : List ℕ} → GoodList lits ends → flatten (clauses lits ends) ≡ lits
+pub join-clauses : {lits ends : List ℕ} → GoodShape lits ends → flatten (clauses lits ends) ≡ lits
 unfolding noFallAt
 join-clauses {lits} {ends} g = join-from 0 lits ends (λ i h. leb-true _ _ (no-fall g i h)) (last-start g)

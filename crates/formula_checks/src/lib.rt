@@ -7,7 +7,7 @@ ghost use mathlib.Core.Path.{_≡_};
 ghost use Prim.Native.Nat.{_+_, _≤_, _<_};
 ghost use lib.ListN.{length};
 ghost use Rattle.formula.specs.Clauses as spec;
-ghost use Rattle.formula.specs.Good.{GoodList};
+ghost use Rattle.formula.specs.Good.{GoodShape};
 ghost use Rattle.formula_checks.specs.Checks as checks;
 ghost use Rattle.formula_checks.specs.Marks.{Unmarked};
 ghost use Rattle.lit.specs.Numbers.{maxVars};
@@ -83,7 +83,7 @@ fn check_clause(n: u32, codes: &[u32], marks: &mut [u32], mark: u32) -> bool
 
 // Err or Unsat, by the first clause that fails its check or is empty; else Unknown.
 fn check_each(n: u32, lits: &[u32], ends: &[u32]) -> SatResult
-    requires { ⌜ GoodList (now lits) (now ends) × (n ≤ maxVars) ⌝ }
+    requires { ⌜ GoodShape (now lits) (now ends) × (n ≤ maxVars) ⌝ }
     ensures { λ r. ⌜ r ≡ checks.checkEach n (spec.clauses (now (lits .entry)) (now (ends .entry))) ⌝ }
 {
     let mut marks = [0u32; MAX_VARS as usize];
@@ -104,7 +104,7 @@ fn check_each(n: u32, lits: &[u32], ends: &[u32]) -> SatResult
 
 // What is known of a formula before any search.
 fn check_formula(n: u32, lits: &[u32], ends: &[u32]) -> SatResult
-    requires { ⌜ GoodList (now lits) (now ends) × (n ≤ maxVars) ⌝ }
+    requires { ⌜ GoodShape (now lits) (now ends) × (n ≤ maxVars) ⌝ }
     ensures { λ r. ⌜ r ≡ checks.checkFormulaInvariant n (spec.clauses (now (lits .entry)) (now (ends .entry))) ⌝ }
 {
     if ends.len() == 0 {

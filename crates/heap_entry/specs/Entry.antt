@@ -30,6 +30,6 @@ entered n m lits literals ends = mode.entered n m (heapMode n m lits ends) lits 
 abbrev pub made : (n m : ℕ) (lits : List ℕ) → ℕ → (ends : List ℕ) → Session n m (heapOps n lits ends) → Result (Session n m (heapOps n lits ends))
 made n m lits literals ends = mode.made n m (heapMode n m lits ends) lits literals ends true
 
--- the small states that come back where no session was made
+-- DECISIONS 26: the small states that come back where no session was made
 abbrev pub blank : HeapState
 blank = record { trail = record { len = 0; level = 0; «curr_i» = 0 }; vsids = record { len = 0; step = freshStep } }

@@ -3,8 +3,17 @@ use mathlib.Core.Path.{_≡_, refl, ap, sym, subst, _∙_}
 use mathlib.Core.List.{List, _∷_, _++_, append-nil}
 use Prim.Native.Nat.{ℕ, zero, suc, _+_, _-_, _<_, _≤_}
 use native.Mathlib.Omega.{arith}
+use native.Mathlib.Numerals.{add-one}
 use lib.ListN.{length, getD, take, drop, replicate, length-append, length-drop, drop-of-length-le, take-append-drop, List·getD-append}
-use lib.Seq.{getD-drop, getD-append-add, take-all, take-at, drop-at}
+use lib.Seq.{drop-cons, getD-drop, getD-append-add, take-all, take-at, drop-at}
+
+-- what is left of a list from place i on: the element there, and what is left behind it
+pub drop-next : (l : List ℕ) (i : ℕ) → i < length l → drop i l ≡ getD l i 0 ∷ drop (i + 1) l
+drop-next l i h = rw (add-one, drop-cons l i 0 h)
+
+-- a part up to the end is what is left
+pub to-end : (n : ℕ) (l : List ℕ) → take (length l - n) (drop n l) ≡ drop n l
+to-end n l = take-all (length l - n) (drop n l) (omega (arith, length-drop n l))
 
 -- a first part p of n elements
 module _ {A : Type 0} (p : List A) (n : ℕ) (e : length p ≡ n) where

@@ -35,6 +35,6 @@ entered n m lits literals ends = mode.entered n m (listMode n m lits) lits liter
 abbrev pub made : (n m : ℕ) (lits : List ℕ) → ℕ → List ℕ → List ℕ → List ℕ → Session n m (listOps n lits) → Result (Session n m (listOps n lits))
 made n m lits literals ends counts indexes = mode.made n m (listMode n m lits) lits literals ends (scratchLengths n (length counts) (length indexes))
 
--- the small states that come back where no session was made
+-- DECISIONS 26: the small states that come back where no session was made
 abbrev pub blank : ListState
 blank = record { trail = record { len = 0; level = 0; «curr_i» = 0 }; vmtf = record { start = NONE; search = NONE; timestamp = 0 } }

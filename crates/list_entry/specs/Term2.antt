@@ -5,11 +5,10 @@ use mathlib.Core.List.{List}
 use lib.ListN.{length}
 use Rattle.vmtf.specs.Vmtf.{Vmtf, from}
 use Rattle.vmtf.specs.Order.{count}
-use Rattle.vmtf.specs.Good.{Falls, order-is}
+use Rattle.vmtf.specs.Good.{Falls, InOrder, order-is}
 use Rattle.choosers.specs.List.{listOps}
 use Rattle.book.specs.Session.{status, leaves, Session}
 use Rattle.entry.specs.Asked.{Asked}
-use Rattle.list_calls.specs.Good.{InOrder}
 use Rattle.list_entry.specs.Entry.{entered, made}
 use Rattle.list_entry.specs.Entered.{entered-good, made-good}
 

@@ -7,7 +7,7 @@ ghost use Rattle.vmtf.specs.Vmtf.{vmtfOf};
 ghost use Rattle.choosers.specs.List.{listOps};
 ghost use Rattle.calls.specs.Entry.{Answered};
 ghost use Rattle.list_calls.specs.Memory.{sessionOf};
-ghost use Rattle.list_calls.specs.Good.{InOrder};
+ghost use Rattle.vmtf.specs.Good.{InOrder};
 ghost use Rattle.forms.specs.Read.{Fits, groupOn};
 ghost use Rattle.sheet.specs.Sheet.{called};
 use forms::Count;
@@ -76,18 +76,48 @@ pub fn group_line(
 {
     if line.len() <= 2 * FEW {
         let mut vars = [NONE; FEW];
-        let mut keys = [0u64; FEW];
+        let mut stamps = [0u64; FEW];
         let mut order = [NONE; FEW];
-        return group_with(line, n, next, prev, ts, s, &mut vars, &mut keys, &mut order);
+        return group_with(
+            line,
+            n,
+            next,
+            prev,
+            ts,
+            s,
+            &mut vars,
+            &mut stamps,
+            &mut order,
+        );
     }
     if line.len() <= 2 * SOME {
         let mut vars = [NONE; SOME];
-        let mut keys = [0u64; SOME];
+        let mut stamps = [0u64; SOME];
         let mut order = [NONE; SOME];
-        return group_with(line, n, next, prev, ts, s, &mut vars, &mut keys, &mut order);
+        return group_with(
+            line,
+            n,
+            next,
+            prev,
+            ts,
+            s,
+            &mut vars,
+            &mut stamps,
+            &mut order,
+        );
     }
     let mut vars = [NONE; MANY];
-    let mut keys = [0u64; MANY];
+    let mut stamps = [0u64; MANY];
     let mut order = [NONE; MANY];
-    group_with(line, n, next, prev, ts, s, &mut vars, &mut keys, &mut order)
+    group_with(
+        line,
+        n,
+        next,
+        prev,
+        ts,
+        s,
+        &mut vars,
+        &mut stamps,
+        &mut order,
+    )
 }

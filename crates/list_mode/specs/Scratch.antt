@@ -5,7 +5,7 @@ use lib.Dec.{eqb}
 use Rattle.calls.specs.declared.Call as code
 use Rattle.calls.specs.declared.Call.the-variants as variant
 
--- an accepted group, and no other call
+-- 'Scratch .. ends as zeros': that of an accepted group, and of no other call
 abbrev pub clears : code.Call → ℕ → Bool
 clears (variant.Bump v) k = false
 clears variant.Decay k = false

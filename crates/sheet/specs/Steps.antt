@@ -4,7 +4,8 @@ use mathlib.Core.Path.{_≡_, sym, ap, _∙_}
 use mathlib.Core.List.{List, [], _∷_}
 use native.Mathlib.Omega.{arith}
 use lib.ListN.{length, take, drop, length-append, length-drop}
-use lib.Seq.{take-all, drop-drop}
+use lib.Seq.{drop-drop}
+use Rattle.laws.specs.Parts.{to-end}
 use Rattle.lit.specs.Numbers.{answerRoom}
 use Rattle.book.specs.Session.{status, reply, leaves}
 use Rattle.text.specs.Text.{newline, lines, occurs, find}
@@ -17,10 +18,7 @@ use Rattle.sheet.specs.Running.{linesFrom, lineLength, lineFrom, after, 
 pub same-end : {sheet : List ℕ} {p q r : Place} {s u v : Stage} {out out′ out″ : List ℕ} → SameEnd sheet p s out q u out′ → SameEnd sheet q u out′ r v out″ → SameEnd sheet p s out r v out″
 same-end a b = record { buffer = b .buffer ∙ a .buffer; count = b .count ∙ a .count }
 
--- a part up to the end of a list, and one of k elements
-pub to-end : (a : ℕ) (l : List ℕ) → take (length l - a) (drop a l) ≡ drop a l
-to-end a l = take-all (length l - a) (drop a l) (omega (arith, length-drop a l))
-
+-- a part of k elements
 pub part-of : (a k : ℕ) (l : List ℕ) → take (a + k - a) (drop a l) ≡ take k (drop a l)
 part-of a k l = let e : a + k - a ≡ k = omega arith in rw e
 

@@ -28,7 +28,7 @@ fn put_ending(out: &mut [u8], at: usize, reply: u32) -> usize
     ensures { λ r. ⌜ Wrote at (ending (replyOf reply)) (now (out .entry)) (now (out .exit)) r ⌝ }
 {
     if reply == NONE {
-        out[at] = 45;
+        out[at] = b'-';
         out[at + 1] = NEWLINE;
         return at + 2;
     }

@@ -14,25 +14,22 @@ use lib.Dec.{leb, T}
 use lib.Ieee.{Float, nan, inf, fin, binary64, ofBits, div, isNan, nanBits}
 use lib.Ieee.Bits.{nanBits-is, nanBits-above}
 use lib.ListN.{length, getD, take, drop, drop-of-length-le}
-use lib.Seq.{drop-cons, drop-drop}
+use lib.Seq.{drop-drop}
 use Rattle.laws.specs.Tests.{and-true, and-false, and-left, and-right, not-true, not-false}
 use Rattle.laws.specs.Choices.{or-cases}
+use Rattle.laws.specs.Parts.{drop-next}
 use Rattle.lit.specs.Numbers.{NONE}
 use Rattle.text.specs.Text.{find, occurs, all, isDigit, decimal, plain, number, isHex, hexDigit, hexadecimal, pattern}
-
--- the byte at i stands first in what is left
-pub next-byte : (l : List ℕ) (i : ℕ) → i < length l → drop i l ≡ getD l i 0 ∷ drop (i + 1) l
-next-byte l i h = rw (add-one, drop-cons l i 0 h)
 
 -- what a search finds, counted from here
 module _ (b : ℕ) (l : List ℕ) (i : ℕ) where
   pub find-next : i < length l → (getD l i 0 ≡ b → ⊥) → find b (drop i l) ≡ suc (find b (drop (i + 1) l))
   unfolding find
-  find-next h n = rw (next-byte l i h, ne-eqb (getD l i 0) b n)
+  find-next h n = rw (drop-next l i h, ne-eqb (getD l i 0) b n)
 
   pub find-here : i < length l → getD l i 0 ≡ b → find b (drop i l) ≡ 0
   unfolding find
-  find-here h e = rw (next-byte l i h, eq-eqb (getD l i 0) b e)
+  find-here h e = rw (drop-next l i h, eq-eqb (getD l i 0) b e)
 
   pub find-none : length l ≤ i → find b (drop i l) ≡ 0
   unfolding find
@@ -42,11 +39,11 @@ module _ (b : ℕ) (l : List ℕ) (i : ℕ) where
 module _ (b : ℕ) (l : List ℕ) (i : ℕ) where
   pub occurs-other : i < length l → (getD l i 0 ≡ b → ⊥) → occurs b (drop i l) ≡ occurs b (drop (i + 1) l)
   unfolding occurs
-  occurs-other h n = rw (next-byte l i h, ne-eqb (getD l i 0) b n)
+  occurs-other h n = rw (drop-next l i h, ne-eqb (getD l i 0) b n)
 
   pub occurs-same : i < length l → getD l i 0 ≡ b → occurs b (drop i l) ≡ suc (occurs b (drop (i + 1) l))
   unfolding occurs
-  occurs-same h e = rw (next-byte l i h, eq-eqb (getD l i 0) b e)
+  occurs-same h e = rw (drop-next l i h, eq-eqb (getD l i 0) b e)
 
   pub occurs-end : length l ≤ i → occurs b (drop i l) ≡ 0
   unfolding occurs
@@ -84,15 +81,15 @@ decimal-grows v (b ∷ bs) = omega (arith, decimal-grows (v * 10 + (b - 48)) bs)
 module _ (v : ℕ) (l : List ℕ) (i : ℕ) (h : i < length l) where
   pub number-next : 48 ≤ getD l i 0 → getD l i 0 ≤ 57 → numberFrom v (drop i l) ≡ numberFrom (v * 10 + (getD l i 0 - 48)) (drop (i + 1) l)
   unfolding numberFrom all decimal
-  number-next low high = rw (next-byte l i h, le-leb 48 (getD l i 0) low, le-leb (getD l i 0) 57 high)
+  number-next low high = rw (drop-next l i h, le-leb 48 (getD l i 0) low, le-leb (getD l i 0) 57 high)
 
   pub number-low : getD l i 0 < 48 → numberFrom v (drop i l) ≡ none
   unfolding numberFrom all
-  number-low low = rw (next-byte l i h, lt-leb 48 (getD l i 0) low)
+  number-low low = rw (drop-next l i h, lt-leb 48 (getD l i 0) low)
 
   pub number-high : 57 < getD l i 0 → numberFrom v (drop i l) ≡ none
   unfolding numberFrom all
-  number-high high = rw (next-byte l i h, lt-leb (getD l i 0) 57 high, and-false (leb 48 (getD l i 0)))
+  number-high high = rw (drop-next l i h, lt-leb (getD l i 0) 57 high, and-false (leb 48 (getD l i 0)))
 
 -- so a part above the greatest number means that the whole is
 pub number-over : (v : ℕ) (bs : List ℕ) → NONE < v → numberFrom v bs ≡ none
@@ -138,7 +135,7 @@ upTo b l = take (find b l) l
 module _ (b : ℕ) (l : List ℕ) (i : ℕ) where
   pub field-next : i < length l → (getD l i 0 ≡ b → ⊥) → upTo b (drop i l) ≡ getD l i 0 ∷ upTo b (drop (i + 1) l)
   unfolding find
-  field-next h n = rw (next-byte l i h, ne-eqb (getD l i 0) b n)
+  field-next h n = rw (drop-next l i h, ne-eqb (getD l i 0) b n)
 
 -- the value of a byte as a hexadecimal digit, and 16 where it is none
 abbrev pub hexValue : ℕ → ℕ
@@ -186,14 +183,14 @@ module _ (v : ℕ) (l : List ℕ) (i d : ℕ) (h : i < length l) (is : d ≡ hex
   pattern-next n =
       let hex : isHex (getD l i 0) ≡ true = is-hex (getD l i 0) (λ e. n (is ∙ e)) in
       let digit : d ≡ hexDigit (getD l i 0) = is ∙ rw hex in
-      rw (digit, next-byte l i h, hex)
+      rw (digit, drop-next l i h, hex)
 
   pub pattern-digit : (d ≡ 16 → ⊥) → d < 16
   pattern-digit n = omega (arith, hex-small (getD l i 0) (is-hex (getD l i 0) (λ e. n (is ∙ e))))
 
   pub pattern-bad : d ≡ 16 → patternFrom v (drop i l) ≡ none
   unfolding patternFrom all
-  pattern-bad e = rw (next-byte l i h, no-hex (getD l i 0) (sym is ∙ e))
+  pattern-bad e = rw (drop-next l i h, no-hex (getD l i 0) (sym is ∙ e))
 
 pub pattern-end : (v : ℕ) (l : List ℕ) (i : ℕ) → length l ≤ i → patternFrom v (drop i l) ≡ some v
 unfolding patternFrom all hexadecimal

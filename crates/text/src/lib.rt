@@ -160,11 +160,16 @@ pub fn pattern(field: &[u8]) -> Bits
     Bits::Are(v)
 }
 
+// The bit of the sign, and the pattern of infinity: one above it, the sign aside, is a NaN's.
+const SIGN_BIT: u64 = 0x8000_0000_0000_0000;
+
+const INFINITY: u64 = 0x7ff0_0000_0000_0000;
+
 // The double of a pattern; every pattern of a NaN gives a NaN.
 pub fn double(bits: u64) -> f64
     ensures { λ r. ⌜ r ≡ ofBits binary64 bits ⌝ }
 {
-    if bits % 9223372036854775808 > 9218868437227405312 {
+    if bits % SIGN_BIT > INFINITY {
         return 0.0 / 0.0;
     }
     f64::from_bits(bits)

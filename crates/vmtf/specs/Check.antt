@@ -13,7 +13,7 @@ use Rattle.laws.specs.Tests.{and-left, and-right, and-both}
 use Rattle.lit.specs.Numbers.{NONE}
 use Rattle.vmtf.specs.Vmtf.{Vmtf, first, stands, checkRow, checkList}
 use Rattle.vmtf.specs.Order.{count, count-there, count-more, count-head, count-nil}
-use Rattle.vmtf.specs.Good.{Row, Falls, GoodList, Good, falls-once, length-once, order-length}
+use Rattle.vmtf.specs.Good.{Row, Falls, GoodList, InOrder, falls-once, length-once, order-length}
 
 -- what the walk of the check shows: an order of k variables from c on, which come after p with stamps below b
 pub record Walked (l : Vmtf) (k p b c : ℕ) : Type 0 where
@@ -57,11 +57,11 @@ module _ (l : Vmtf) where
 
 -- for memory of the right lengths: the check passes exactly when the list is good, in some order
 pub check-good : (n : ℕ) (l : Vmtf) → n ≤ NONE → length (l .next) ≡ n → length (l .prev) ≡ n → length (l .ts) ≡ n
-    → (checkList l ≡ true) ↔ Good n l
+    → (checkList l ≡ true) ↔ InOrder n l
 unfolding checkList
 check-good n l small en ep et = (good, λ r. pass (r .0) (r .1))
   where
-    good : checkList l ≡ true → Good n l
+    good : checkList l ≡ true → InOrder n l
     good e =
         let w = checked l (length (l .next)) NONE (l .timestamp) (l .start) (and-left (checkRow l (length (l .next)) NONE (l .timestamp) (l .start)) _ e) in
         let vars : (v : ℕ) → 0 < count v (w .order) → v < n = λ v h. omega (arith, w .vars v h) in (

@@ -1,5 +1,5 @@
 -- A good list: the facts that document 01 states of the move-to-front list, over the plain order of its variables.
--- Definitions to believe: `Row`, `Falls`, `Linked`, `GoodList`, `Good`. The rest are laws. Assumes nothing.
+-- Assumes nothing.
 use Prim.Native.Nat.{ℕ, zero, suc, _+_, _-_, _<_, _≤_}
 use mathlib.Core.Path.{_≡_, refl, sym, ap, _∙_}
 use mathlib.Core.Logic.{_≢_, _↔_, by-cases}
@@ -43,8 +43,8 @@ pub record GoodList (n : ℕ) (order : List ℕ) (l : Vmtf) : Type 0 where
   pub search-in : l .search ≢ NONE → l .search < n
 
 -- good, in some order: the links tell which (`order-is`)
-abbrev pub Good : ℕ → Vmtf → Type 0
-Good n l = (order : List ℕ) × GoodList n order l
+abbrev pub InOrder : ℕ → Vmtf → Type 0
+InOrder n l = (order : List ℕ) × GoodList n order l
 
 -- ---- counting
 

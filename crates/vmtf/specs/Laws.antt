@@ -9,13 +9,14 @@ use native.Mathlib.Omega.{arith}
 use native.Mathlib.Decide.{ℕ-discrete}
 use native.Mathlib.Numerals.{add-one}
 use lib.ListN.{length, getD, set, take, drop, replicate, length-set, length-drop, length-replicate, length-map, drop-of-length-le, List·getD-map}
-use lib.Seq.{drop-cons, getD-drop, length-take-le, take-suc, take-all}
+use lib.Seq.{getD-drop, length-take-le, take-suc, take-all}
 use lib.Dec.{ltb, eqb}
 use borrow.Author.Tests.{eq-eqb, ne-eqb, eqb-false, ltb-true}
 use Rattle.lit.specs.Numbers.{NONE}
 use Rattle.lit.specs.Lits.{index}
 use Rattle.laws.specs.Tests.{and-left, cond-elim}
 use Rattle.laws.specs.Lists.{set-cases}
+use Rattle.laws.specs.Parts.{drop-next}
 use Rattle.laws.specs.InPlace.{store-next, upTo, length-upTo, getD-upTo}
 use Rattle.util.specs.Pairs.{SamePairs, stood}
 use Rattle.util.specs.SortReverse.{sortReverse}
@@ -23,10 +24,6 @@ use Rattle.util.specs.Falling.{sort-permutes}
 use Rattle.vmtf.specs.Vmtf.{Vmtf, maxStamp, countLits, litOrder, first, linked, linkFrom, makeLinkedList, renumber, rescore, relink, tick, moveToFront, moveAll, stampsOf, isOpen, from, firstOpen, anyOpen, stands, checkRow, Safe, Chain, Ends, Vars, Ordering}
 
 -- ---- lists place by place
-
--- what is left of a list at place i
-pub drop-next : (l : List ℕ) (i : ℕ) → i < length l → drop i l ≡ getD l i 0 ∷ drop (i + 1) l
-drop-next l i h = rw (add-one, drop-cons l i 0)
 
 -- at a place of the list the default does not matter
 pub getD-any : (l : List ℕ) (i a b : ℕ) → i < length l → getD l i a ≡ getD l i b

@@ -1,5 +1,5 @@
 -- Plain orders of variables: how often a variable stands in one, taking it out and putting it first, and who stands beside it.
--- Definitions to believe: `count`, `remove`, `toFront`, `allToFront`. The rest are laws. Assumes nothing.
+-- Assumes nothing.
 use Prim.Native.Nat.{ℕ, zero, suc, _-_, _<_, _≤_}
 use mathlib.Core.Path.{_≡_, refl, sym, ap, subst, _∙_}
 use mathlib.Core.Logic.{_≢_, by-cases}

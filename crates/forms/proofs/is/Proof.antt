@@ -4,13 +4,12 @@ use mathlib.Core.Path.{_≡_, refl, sym, ap, _∙_}
 use mathlib.Core.Bool.{_&&_}
 use mathlib.Core.List.{List, _∷_}
 use native.Mathlib.Omega.{arith}
-use native.Mathlib.Numerals.{add-one}
 use borrow.Author.Needs.{needs}
 use borrow.Author.Tests.{eq-eqb, ne-eqb}
 use lib.Dec.{eqb}
 use lib.ListN.{length, getD, drop, drop-of-length-le}
-use lib.Seq.{drop-cons}
 use Rattle.laws.specs.Tests.{not-true}
+use Rattle.laws.specs.Parts.{drop-next}
 use Rattle.forms.specs.Forms.{is}
 use Rattle.forms.specs.Laws.{is-same}
 use Rattle.forms.proofs.is.Statement.{statement}
@@ -22,13 +21,9 @@ Inv-loop field word i₀ i = (i ≤ length word) × ((length field ≡ length wo
 abbrev μ-loop : tie.MeasureT-loop
 μ-loop field word i₀ i = length word - i
 
--- the byte at i stands first in what is left
-next : (l : List ℕ) (i : ℕ) → i < length l → drop i l ≡ getD l i 0 ∷ drop (i + 1) l
-next l i h = rw (add-one, drop-cons l i 0 h)
-
 step : (l w : List ℕ) (i : ℕ) → i < length l → i < length w → is (drop i l) (drop i w) ≡ eqb (getD l i 0) (getD w i 0) && is (drop (i + 1) l) (drop (i + 1) w)
 unfolding is
-step l w i h k = rw (next l i h, next w i k)
+step l w i h k = rw (drop-next l i h, drop-next w i k)
 
 returns : tie.Need-returns Inv-loop μ-loop
 returns c =

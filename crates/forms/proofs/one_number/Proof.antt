@@ -10,7 +10,8 @@ use Rattle.text.specs.Read.{wholeOf}
 use Rattle.forms.specs.Forms.{one}
 use Rattle.forms.specs.Behind.{tabbed-long, untabbed}
 use Rattle.forms.specs.Laws.{number-tab}
-use Rattle.forms.specs.Lines.{one-behind, to-end}
+use Rattle.laws.specs.Parts.{to-end}
+use Rattle.forms.specs.Lines.{one-behind}
 use Rattle.forms.proofs.one_number.Statement.{statement}
 use Rattle.forms.proofs.one_number.Tie as tie
 

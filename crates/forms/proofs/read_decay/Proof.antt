@@ -7,7 +7,8 @@ use lib.ListN.{drop}
 use Rattle.text.specs.Text.{pattern}
 use Rattle.forms.specs.Forms.{setsDecay, callWith, decayIn}
 use Rattle.forms.specs.Behind.{tabbed-long, untabbed}
-use Rattle.forms.specs.Lines.{one-behind, decay-tab, to-end}
+use Rattle.laws.specs.Parts.{to-end}
+use Rattle.forms.specs.Lines.{one-behind, decay-tab}
 use Rattle.forms.specs.Told.{bits-are, bits-bad}
 use Rattle.forms.proofs.read_decay.Statement.{statement}
 use Rattle.forms.proofs.read_decay.Tie as tie

@@ -6,7 +6,8 @@ use native.Mathlib.Omega.{arith}
 use lib.ListN.{length, take, drop}
 use Rattle.text.specs.Text.{number}
 use Rattle.forms.specs.Forms.{given, enqueueIn, reasonIn}
-use Rattle.forms.specs.Lines.{second-range, two-none, two-behind, enqueue-tab, to-end}
+use Rattle.laws.specs.Parts.{to-end}
+use Rattle.forms.specs.Lines.{second-range, two-none, two-behind, enqueue-tab}
 use Rattle.forms.specs.Told.{whole-is, whole-bad}
 use Rattle.forms.proofs.read_enqueue.Statement.{statement}
 use Rattle.forms.proofs.read_enqueue.Tie as tie

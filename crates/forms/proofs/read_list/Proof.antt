@@ -3,7 +3,7 @@ use borrow.Author.Needs.{needs}
 use mathlib.Core.Path.{refl}
 use Rattle.forms.specs.Forms.{numbers}
 use Rattle.forms.specs.Behind.{behind-end, behind-other, behind-tab}
-use Rattle.forms.specs.Lines.{to-end}
+use Rattle.laws.specs.Parts.{to-end}
 use Rattle.forms.proofs.read_list.Statement.{statement}
 use Rattle.forms.proofs.read_list.Tie as tie
 

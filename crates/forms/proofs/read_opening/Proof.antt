@@ -7,7 +7,8 @@ use lib.ListN.{length, take, drop}
 use Rattle.text.specs.Text.{number}
 use Rattle.forms.specs.Forms.{given, openingIn}
 use Rattle.forms.specs.Read.{firstOf}
-use Rattle.forms.specs.Lines.{second-range, two-none, two-behind, opening-tab, to-end}
+use Rattle.laws.specs.Parts.{to-end}
+use Rattle.forms.specs.Lines.{second-range, two-none, two-behind, opening-tab}
 use Rattle.forms.specs.Told.{whole-is, whole-bad}
 use Rattle.forms.proofs.read_opening.Statement.{statement}
 use Rattle.forms.proofs.read_opening.Tie as tie

@@ -9,7 +9,7 @@ use lib.ListN.{length, drop, length-drop}
 use Rattle.text.specs.Text.{tab, find}
 use Rattle.text.specs.Laws.{find-length}
 use Rattle.forms.specs.Behind.{tabbed-long, secondTab}
-use Rattle.forms.specs.Lines.{to-end}
+use Rattle.laws.specs.Parts.{to-end}
 use Rattle.forms.proofs.second_tab.Statement.{statement}
 use Rattle.forms.proofs.second_tab.Tie as tie
 

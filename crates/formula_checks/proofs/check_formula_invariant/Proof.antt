@@ -10,13 +10,13 @@ use lib.ListN.{length}
 use lib.Dec.{eqb}
 use Rattle.lit.specs.Numbers.{badLength, badClauses}
 use Rattle.formula.specs.Clauses.{listOk}
-use Rattle.formula.specs.Good.{GoodList, list-facts}
+use Rattle.formula.specs.Good.{GoodShape, list-facts}
 use Rattle.formula_checks.specs.Checks.{listRefusal, checkFormulaInvariantCall}
 use Rattle.formula_checks.proofs.check_formula_invariant.Statement.{statement}
 use Rattle.formula_checks.proofs.check_formula_invariant.Tie as tie
 
 -- a list that is not refused is good
-accepted : (lits ends : List ℕ) (literals clauses : ℕ) → listRefusal lits ends literals clauses ≡ 0 → GoodList lits ends
+accepted : (lits ends : List ℕ) (literals clauses : ℕ) → listRefusal lits ends literals clauses ≡ 0 → GoodShape lits ends
 unfolding listRefusal
 accepted lits ends literals clauses e = list-facts lits ends .0 (passed (eqb (length lits) literals && eqb (length ends) clauses) (listOk lits ends) e)
   where

@@ -7,7 +7,7 @@ use Rattle.vmtf.specs.Good.{good-safe}
 use Rattle.vmtf.specs.Sort.{group-apart}
 use Rattle.book.specs.Session.{call, tuned}
 use Rattle.calls.specs.Outcomes.{failed, passed, rechosen}
-use Rattle.list_calls.specs.Good.{below-at}
+use Rattle.choosers.specs.List.{below-each}
 use borrow.Author.Needs.{needs}
 use Rattle.list_calls.proofs.group.Statement.{statement}
 use Rattle.list_calls.proofs.group.Tie as tie
@@ -20,7 +20,7 @@ bump-vec-of-vars-requires : tie.Need-bump-vec-of-vars-requires
 bump-vec-of-vars-requires c κs =
     let s = c .before .before .before .before .before .before .before .before .before .before .before .before .before .before .before in
     let g = s .pre .0 .1 in
-    let vars = below-at _ _ (sym (c .before .before .before .before .before .before .before .before .vars-below .ensures) ∙ not-false _ (c .before .before .before .before .before .before .before .if1 .left)) in
+    let vars = below-each _ _ (sym (c .before .before .before .before .before .before .before .before .vars-below .ensures) ∙ not-false _ (c .before .before .before .before .before .before .before .if1 .left)) in
     rw (g .linked .next-long) (
       good-safe g,
       record {

@@ -6,7 +6,7 @@ use native.Mathlib.Omega.{arith}
 use lib.ListN.{length, take, drop, length-drop}
 use Rattle.text.specs.Text.{find}
 use Rattle.text.specs.Laws.{find-length}
-use Rattle.sheet.specs.Steps.{to-end}
+use Rattle.laws.specs.Parts.{to-end}
 use borrow.Author.Needs.{needs}
 use Rattle.replay.proofs.all.Statement.{statement}
 use Rattle.replay.proofs.all.Tie as tie

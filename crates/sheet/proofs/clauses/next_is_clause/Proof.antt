@@ -7,7 +7,8 @@ use borrow.Author.Tests.{le-ltb}
 use lib.ListN.{drop}
 use Rattle.forms.specs.Forms.{beginsClause}
 use Rattle.sheet.specs.Running.{nextClause}
-use Rattle.sheet.specs.Steps.{to-end, lines-over, lines-more}
+use Rattle.laws.specs.Parts.{to-end}
+use Rattle.sheet.specs.Steps.{lines-over, lines-more}
 use Rattle.sheet.specs.ClauseLines.{begins-front}
 use borrow.Author.Needs.{needs}
 use Rattle.sheet.proofs.clauses.next_is_clause.Statement.{statement}
