@@ -125,8 +125,10 @@ fn lines_behind(
     session_lines(sheet, out, positions, heap, n, &none, &none, p)
 }
 
-// At most so many variables have a short array of positions.
-const FEW: u32 = 320;
+// How many variables the shorter arrays of positions have room for.
+const FEW: u32 = 64;
+
+const SOME: u32 = 320;
 
 // The lines behind the first, on positions set up for them.
 fn own_positions(sheet: &[u8], out: &mut [u8], heap: bool, n: u32, p: Place) -> usize
@@ -136,6 +138,10 @@ fn own_positions(sheet: &[u8], out: &mut [u8], heap: bool, n: u32, p: Place) -> 
     if n <= FEW {
         let mut few = [NONE; FEW as usize];
         return lines_behind(sheet, out, &mut few, heap, n, p);
+    }
+    if n <= SOME {
+        let mut some = [NONE; SOME as usize];
+        return lines_behind(sheet, out, &mut some, heap, n, p);
     }
     let mut all = [NONE; MAX_VARS as usize];
     lines_behind(sheet, out, &mut all, heap, n, p)

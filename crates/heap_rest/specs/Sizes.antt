@@ -1,5 +1,6 @@
 -- How many variables the shorter arrays of a session have room for. `src/lib.rt` has the same numbers for code.
-use Prim.Native.Nat.{ℕ}
+use Prim.Native.Nat.{ℕ, _+_}
+use Rattle.lit.specs.Numbers.{maxVars}
 
 abbrev pub few : ℕ
 few = 64
@@ -9,3 +10,7 @@ some = 320
 
 abbrev pub many : ℕ
 many = 1152
+
+-- and the longest
+abbrev pub all : ℕ
+all = maxVars + 16

@@ -136,6 +136,9 @@ const SOME: u32 = 320;
 
 const MANY: u32 = 1152;
 
+// And the longest, for as many as there may be: a cache line more, so that the arrays do not all begin at the same place of the cache.
+const ALL: u32 = MAX_VARS + 16;
+
 // The rest of a run with few variables.
 fn in_few(
     sheet: &[u8],
@@ -269,14 +272,14 @@ fn in_all(
     requires { ⌜ Room (now sheet) p (now out) × (n ≤ number.maxVars) × GoodClauses n (now lits) (now ends) × (n ≤ length (now positions)) ⌝ }
     ensures { λ r. ⌜ Ended (now (sheet .entry)) p (spec.opened vsids n (now (lits .entry)) (now (ends .entry))) (now (out .entry)) r (now (out .exit)) ⌝ }
 {
-    let mut values = [UNASSIGNED; MAX_VARS as usize];
-    let mut levels = [NONE; MAX_VARS as usize];
-    let mut reasons = [NONE; MAX_VARS as usize];
-    let mut trail = [NONE; MAX_VARS as usize];
-    let mut opened = [NONE; MAX_VARS as usize];
-    let mut activity = [ZERO_ACTIVITY; MAX_VARS as usize];
-    let mut heap = [NONE; MAX_VARS as usize];
-    let mut decision = [true; MAX_VARS as usize];
+    let mut values = [UNASSIGNED; ALL as usize];
+    let mut levels = [NONE; ALL as usize];
+    let mut reasons = [NONE; ALL as usize];
+    let mut trail = [NONE; ALL as usize];
+    let mut opened = [NONE; ALL as usize];
+    let mut activity = [ZERO_ACTIVITY; ALL as usize];
+    let mut heap = [NONE; ALL as usize];
+    let mut decision = [true; ALL as usize];
     in_arrays(
         sheet,
         out,

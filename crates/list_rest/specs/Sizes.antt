@@ -1,8 +1,13 @@
 -- How many variables the shorter arrays of a session have room for. `src/lib.rt` has the same numbers for code.
-use Prim.Native.Nat.{ℕ}
+use Prim.Native.Nat.{ℕ, _+_}
+use Rattle.lit.specs.Numbers.{maxVars}
 
 abbrev pub few : ℕ
 few = 32
 
 abbrev pub some : ℕ
 some = 256
+
+-- and the longest
+abbrev pub all : ℕ
+all = maxVars + 16

@@ -168,6 +168,9 @@ const FEW: u32 = 32;
 
 const SOME: u32 = 256;
 
+// And the longest, for as many as there may be: a cache line more, so that the arrays do not all begin at the same place of the cache.
+const ALL: u32 = MAX_VARS + 16;
+
 // The rest of a run with few variables.
 fn in_few(sheet: &[u8], out: &mut [u8], n: u32, lits: &[u32], ends: &[u32], p: Place) -> usize
     requires { ⌜ Room (now sheet) p (now out) × (n ≤ size.few) × GoodClauses n (now lits) (now ends) ⌝ }
@@ -235,14 +238,14 @@ fn in_all(sheet: &[u8], out: &mut [u8], n: u32, lits: &[u32], ends: &[u32], p: P
     requires { ⌜ Room (now sheet) p (now out) × (n ≤ number.maxVars) × GoodClauses n (now lits) (now ends) ⌝ }
     ensures { λ r. ⌜ Ended (now (sheet .entry)) p (spec.opened vmtf n (now (lits .entry)) (now (ends .entry))) (now (out .entry)) r (now (out .exit)) ⌝ }
 {
-    let mut values = [UNASSIGNED; MAX_VARS as usize];
-    let mut levels = [NONE; MAX_VARS as usize];
-    let mut reasons = [NONE; MAX_VARS as usize];
-    let mut trail = [NONE; MAX_VARS as usize];
-    let mut opened = [NONE; MAX_VARS as usize];
-    let mut next = [NONE; MAX_VARS as usize];
-    let mut prev = [NONE; MAX_VARS as usize];
-    let mut ts = [0u64; MAX_VARS as usize];
+    let mut values = [UNASSIGNED; ALL as usize];
+    let mut levels = [NONE; ALL as usize];
+    let mut reasons = [NONE; ALL as usize];
+    let mut trail = [NONE; ALL as usize];
+    let mut opened = [NONE; ALL as usize];
+    let mut next = [NONE; ALL as usize];
+    let mut prev = [NONE; ALL as usize];
+    let mut ts = [0u64; ALL as usize];
     in_arrays(
         sheet,
         out,

@@ -2,12 +2,13 @@
 use mathlib.Core.Path.{refl}
 use native.Mathlib.Omega.{arith}
 use borrow.Author.Needs.{needs}
+use Rattle.list_rest.specs.Sizes.{all}
 use Rattle.list_rest.specs.Start.{room-in}
 use Rattle.list_rest.proofs.in_all.Statement.{statement}
 use Rattle.list_rest.proofs.in_all.Tie as tie
 
 in-arrays-requires : tie.Need-in-arrays-requires
-in-arrays-requires c κs = let s = c .before .before .before .before .before .before .before .before .before .before .before .before .before in ((s .pre .0, omega (arith, s .pre .1), s .pre .2), room-in 2048 (s .pre .1))
+in-arrays-requires c κs = let s = c .before .before .before .before .before .before .before .before .before .before .before .before .before in ((s .pre .0, omega (arith, s .pre .1), s .pre .2), room-in all (omega (arith, s .pre .1)))
 
 pub in-all-spec : {M : Type 1} → statement M
 in-all-spec =
