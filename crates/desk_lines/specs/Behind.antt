@@ -15,6 +15,10 @@ use Rattle.sheet.specs.Sheet.{reading, opened}
 use Rattle.sheet.specs.Running.{linesFrom, Room, Ended, nextClause, stageOf, Holds, Ready, SoFar}
 use Rattle.sheet.specs.ClauseLines.{section-over}
 
+-- how many variables are few, in heap mode and in list mode
+abbrev pub fewVars : Bool → ℕ
+fewVars heap = cond heap 128 32
+
 -- heap mode, or list mode
 abbrev pub modeOf : Bool → Mode
 modeOf heap = cond heap vsids vmtf

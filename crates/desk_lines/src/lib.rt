@@ -8,7 +8,7 @@ ghost use Rattle.lit.specs.Numbers as number;
 ghost use Rattle.formula.specs.Good.{GoodClauses};
 ghost use Rattle.sheet.specs.Sheet.{reading, opened};
 ghost use Rattle.sheet.specs.Running.{Room, Holds, Ended};
-ghost use Rattle.desk_lines.specs.Behind.{modeOf};
+ghost use Rattle.desk_lines.specs.Behind.{modeOf, fewVars};
 use lit::MAX_CLAUSES;
 use lit::MAX_LITERALS;
 use lit::MAX_VARS;
@@ -36,6 +36,36 @@ fn session_lines(
         return heap_rest::rest(sheet, out, positions, n, lits, ends, p);
     }
     list_rest::rest(sheet, out, n, lits, ends, p)
+}
+
+// How many variables are few in heap mode, and in list mode.
+fn few_vars(heap: bool) -> u32
+    ensures { λ r. ⌜ r ≡ fewVars heap ⌝ }
+{
+    if heap {
+        return 128;
+    }
+    32
+}
+
+// The same with few variables. The shortest runs have this way to themselves, so that nothing long is set up for them.
+fn few_lines(
+    sheet: &[u8],
+    out: &mut [u8],
+    positions: &mut [u32],
+    heap: bool,
+    n: u32,
+    lits: &[u32],
+    ends: &[u32],
+    p: Place,
+) -> usize
+    requires { ⌜ Room (now sheet) p (now out) × (n ≤ fewVars heap) × GoodClauses n (now lits) (now ends) × (heap ≡ true → n ≤ length (now positions)) ⌝ }
+    ensures { λ r. ⌜ Ended (now (sheet .entry)) p (opened (modeOf heap) n (now (lits .entry)) (now (ends .entry))) (now (out .entry)) r (now (out .exit)) ⌝ }
+{
+    if heap {
+        return heap_rest::rest_of_few(sheet, out, positions, n, lits, ends, p);
+    }
+    list_rest::rest_of_few(sheet, out, n, lits, ends, p)
 }
 
 // The clause lines, with slices for their clauses, then the session's.
@@ -68,6 +98,18 @@ fn clauses_with(
     let literals = s.literals as usize;
     let clauses = s.clauses as usize;
     let q = s.place;
+    if n <= few_vars(heap) {
+        return few_lines(
+            sheet,
+            out,
+            positions,
+            heap,
+            n,
+            &lits[..literals],
+            &ends[..clauses],
+            q,
+        );
+    }
     session_lines(
         sheet,
         out,
@@ -122,11 +164,14 @@ fn lines_behind(
         return clause_lines_first(sheet, out, positions, heap, n, p);
     }
     let none = [0u32; 0];
+    if n <= few_vars(heap) {
+        return few_lines(sheet, out, positions, heap, n, &none, &none, p);
+    }
     session_lines(sheet, out, positions, heap, n, &none, &none, p)
 }
 
 // How many variables the shorter arrays of positions have room for.
-const FEW: u32 = 64;
+const FEW: u32 = 128;
 
 const SOME: u32 = 320;
 

@@ -3,7 +3,7 @@ use Prim.Native.Nat.{ℕ, _+_}
 use Rattle.lit.specs.Numbers.{maxVars}
 
 abbrev pub few : ℕ
-few = 64
+few = 128
 
 abbrev pub some : ℕ
 some = 320

@@ -130,7 +130,7 @@ fn in_arrays(
 }
 
 // How many variables the shorter arrays of a session have room for: setting up long ones costs more than a short run.
-const FEW: u32 = 64;
+const FEW: u32 = 128;
 
 const SOME: u32 = 320;
 
@@ -299,7 +299,27 @@ fn in_all(
     )
 }
 
-// Does the lines from a place on, and gives the place behind their answers. Without a line no session is made. The positions are the heap's.
+// Does the lines from a place on in a session of few variables, and gives the place behind their answers. Without a line no session is made.
+// The positions are the heap's.
+pub fn rest_of_few(
+    sheet: &[u8],
+    out: &mut [u8],
+    positions: &mut [u32],
+    n: u32,
+    lits: &[u32],
+    ends: &[u32],
+    place: Place,
+) -> usize
+    requires { ⌜ Room (now sheet) place (now out) × (n ≤ size.few) × GoodClauses n (now lits) (now ends) × (n ≤ length (now positions)) ⌝ }
+    ensures { λ r. ⌜ Ended (now (sheet .entry)) place (spec.opened vsids n (now (lits .entry)) (now (ends .entry))) (now (out .entry)) r (now (out .exit)) ⌝ }
+{
+    if place.left == 0 {
+        return place.at;
+    }
+    in_few(sheet, out, positions, n, lits, ends, place)
+}
+
+// The same with any number of variables.
 pub fn rest(
     sheet: &[u8],
     out: &mut [u8],

@@ -264,7 +264,25 @@ fn in_all(sheet: &[u8], out: &mut [u8], n: u32, lits: &[u32], ends: &[u32], p: P
     )
 }
 
-// Does the lines from a place on, and gives the place behind their answers. Where none is left, no session is made.
+// Does the lines from a place on in a session of few variables, and gives the place behind their answers. Without a line no session is made.
+pub fn rest_of_few(
+    sheet: &[u8],
+    out: &mut [u8],
+    n: u32,
+    lits: &[u32],
+    ends: &[u32],
+    place: Place,
+) -> usize
+    requires { ⌜ Room (now sheet) place (now out) × (n ≤ size.few) × GoodClauses n (now lits) (now ends) ⌝ }
+    ensures { λ r. ⌜ Ended (now (sheet .entry)) place (spec.opened vmtf n (now (lits .entry)) (now (ends .entry))) (now (out .entry)) r (now (out .exit)) ⌝ }
+{
+    if place.left == 0 {
+        return place.at;
+    }
+    in_few(sheet, out, n, lits, ends, place)
+}
+
+// The same with any number of variables.
 pub fn rest(sheet: &[u8], out: &mut [u8], n: u32, lits: &[u32], ends: &[u32], p: Place) -> usize
     requires { ⌜ Room (now sheet) p (now out) × (n ≤ number.maxVars) × GoodClauses n (now lits) (now ends) ⌝ }
     ensures { λ r. ⌜ Ended (now (sheet .entry)) p (spec.opened vmtf n (now (lits .entry)) (now (ends .entry))) (now (out .entry)) r (now (out .exit)) ⌝ }
