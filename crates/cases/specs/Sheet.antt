@@ -3,9 +3,10 @@ use Prim.Native.Nat.{ℕ}
 use mathlib.Core.Path.{_≡_, refl}
 use mathlib.Core.List.{List, [], _∷_, _++_}
 use Rattle.formula.specs.Clauses.{clauseFits}
+use Rattle.book.specs.Claim.{begin, step, run}
 use Rattle.text.specs.Text as text
 use Rattle.forms.specs.Forms as forms
-use Rattle.sheet.specs.Sheet.{wrote, called, field, ending, answerLine, answers, answered, ran}
+use Rattle.sheet.specs.Sheet.{wrote, field, ending, answerLine, callsOf, logged, clauseLines, listed, clauseAnswers, behindFirst, answered, ran}
 use Rattle.cases.specs.Definitions.{definitions}
 
 -- lines, each with its newline
@@ -23,5 +24,5 @@ replies = bytes ((49 ∷ 9 ∷ 48 ∷ 9 ∷ 45 ∷ 10 ∷ []) ∷ (50 ∷ 9 ∷ 
 
 -- the buffer has 24 bytes for each of eight lines
 pub worked-sheet : ran sheet 192 ≡ wrote replies
-unfolding definitions bytes clauseFits text.splitFrom text.butLast text.occurs text.all text.decimal text.plain text.number text.digitsBy forms.kindOf forms.numbers forms.is forms.callIn forms.beginsClause forms.codesIn forms.modeIn forms.firstIn called field ending answerLine answers answered ran
+unfolding definitions bytes clauseFits begin step run text.splitFrom text.butLast text.occurs text.all text.decimal text.plain text.number text.digitsBy forms.kindOf forms.numbers forms.is forms.callIn forms.beginsClause forms.codesIn forms.modeIn forms.firstIn field ending answerLine callsOf logged clauseLines listed clauseAnswers behindFirst answered ran
 worked-sheet = refl

@@ -15,7 +15,9 @@ use Rattle.forms.specs.declared.First.the-variants as first
 use Rattle.forms.specs.Forms.{Mode, vsids, vmtf, Opening, firstIn}
 use Rattle.forms.specs.Read.{inMode, firstOf}
 use Rattle.sheet.specs.declared.Place.{Place}
-use Rattle.sheet.specs.Sheet.{reading, answerLine, answers, opening, started, answered}
+use Rattle.sheet.specs.Sheet.{answerLine, answered}
+use Rattle.sheet.specs.Stages.{reading, answers, opening, started}
+use Rattle.sheet.specs.Turns.{answered-turns}
 use Rattle.sheet.specs.Writing.{Wrote, put-more}
 use Rattle.sheet.specs.Bounds.{answer-short}
 use Rattle.sheet.specs.Running.{linesFrom, lineLength, lineFrom, after, Room, Ended}
@@ -53,10 +55,9 @@ module _ {sheet out : List ℕ} {count : ℕ} (room : Room sheet (atFirst count)
 
   -- the first line, and the lines behind it
   pub first-answers : answered (lines sheet) ≡ started (opening (firstIn (lineFrom sheet 0))) (linesFrom sheet (lineLength sheet 0 + 1))
-  unfolding answered
   first-answers =
       let place : 0 + lineLength sheet 0 + 1 ≡ lineLength sheet 0 + 1 = omega arith in
-      ap answered (lines-more room more) ∙ ap (λ (k : ℕ). started (opening (firstIn (lineFrom sheet 0))) (linesFrom sheet k)) place
+      ap answered (lines-more room more) ∙ answered-turns (lineFrom sheet 0) (linesFrom sheet (0 + lineLength sheet 0 + 1)) ∙ ap (λ (k : ℕ). started (opening (firstIn (lineFrom sheet 0))) (linesFrom sheet k)) place
 
   -- answered as what was read says, it is answered as the sheet says
   pub first-done : {end r : ℕ} {x : code.First} {out′ : List ℕ} → end ≡ lineLength sheet 0 → x ≡ firstOf (firstIn (take end sheet))

@@ -4,7 +4,7 @@ ghost use mathlib.Core.Option.{some};
 ghost use Prim.Native.Nat.{_+_, _<_};
 ghost use Rattle.text.specs.Text as text-spec;
 ghost use Rattle.sheet.specs.Sheet.{answered};
-ghost use Rattle.sheet.specs.Sheet as spec;
+ghost use Rattle.sheet.specs.Stages as spec;
 ghost use Rattle.sheet.specs.Writing.{Wrote};
 ghost use Rattle.sheet.specs.Running.{linesFrom, lineLength, Room};
 ghost use Rattle.desk_first.specs.First.{atFirst, openingAt};

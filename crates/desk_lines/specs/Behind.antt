@@ -11,7 +11,7 @@ use Rattle.text.specs.Text.{written}
 use Rattle.forms.specs.Forms.{Mode, vsids, vmtf}
 use Rattle.sheet.specs.declared.Place.{Place}
 use Rattle.sheet.specs.declared.clauses.Section.{Section}
-use Rattle.sheet.specs.Sheet.{reading, opened}
+use Rattle.sheet.specs.Stages.{reading, opened}
 use Rattle.sheet.specs.Running.{linesFrom, Room, Ended, nextClause, stageOf, Holds, Ready, SoFar}
 use Rattle.sheet.specs.ClauseLines.{section-over}
 

@@ -6,7 +6,7 @@ ghost use Prim.Native.Nat.{_≤_};
 ghost use lib.ListN.{length};
 ghost use Rattle.lit.specs.Numbers as number;
 ghost use Rattle.formula.specs.Good.{GoodClauses};
-ghost use Rattle.sheet.specs.Sheet.{reading, opened};
+ghost use Rattle.sheet.specs.Stages.{reading, opened};
 ghost use Rattle.sheet.specs.Running.{Room, Holds, Ended};
 ghost use Rattle.desk_lines.specs.Behind.{modeOf, fewVars};
 use lit::MAX_CLAUSES;

@@ -9,7 +9,8 @@ use Rattle.calls.specs.Entry.{Answered}
 use Rattle.heap_entry.specs.Kept.{IsGood, kept}
 use Rattle.forms.specs.Forms.{callIn}
 use Rattle.sheet.specs.declared.Place.{Place}
-use Rattle.sheet.specs.Sheet.{called, inHeap, replyOf, answerLine}
+use Rattle.sheet.specs.Sheet.{answerLine}
+use Rattle.sheet.specs.Stages.{called, inHeap, replyOf}
 use Rattle.sheet.specs.Writing.{Wrote}
 use Rattle.sheet.specs.Replies.{heap-reply}
 use Rattle.sheet.specs.Running.{lineLength, lineFrom, after, Room}

@@ -13,7 +13,7 @@ ghost use Rattle.heap_calls.specs.Memory.{sessionOf};
 ghost use Rattle.heap_calls.specs.Good.{GoodSession};
 ghost use Rattle.forms.specs.Forms.{callIn};
 ghost use Rattle.forms.specs.Read.{groupOn, Fits};
-ghost use Rattle.sheet.specs.Sheet.{called};
+ghost use Rattle.sheet.specs.Stages.{called};
 ghost use Rattle.sheet.specs.Running.{Room};
 ghost use Rattle.heap_line.specs.Lines.{HeapAlong};
 use forms::Count;

@@ -19,7 +19,7 @@ use Rattle.book.specs.Session.{fresh}
 use Rattle.heap_calls.specs.Good.{GoodSession}
 use Rattle.heap_mode.specs.Check.{stateOk, good-checked, fresh-session}
 use Rattle.forms.specs.Forms.{vsids}
-use Rattle.sheet.specs.Sheet.{inHeap, opened}
+use Rattle.sheet.specs.Stages.{inHeap, opened}
 
 -- nothing on the trail
 abbrev pub atStart : TrailState

@@ -9,7 +9,7 @@ ghost use Rattle.trail.specs.Trail.{freshTrail};
 ghost use Rattle.trail.specs.Memory.{trailOf};
 ghost use Rattle.activity.specs.Doubles.{zeroActivity};
 ghost use Rattle.forms.specs.Forms.{vsids};
-ghost use Rattle.sheet.specs.Sheet as spec;
+ghost use Rattle.sheet.specs.Stages as spec;
 ghost use Rattle.sheet.specs.Running.{Room, Ended};
 ghost use Rattle.heap_rest.specs.Start.{atStart, Blank};
 ghost use Rattle.heap_rest.specs.Sizes as size;

@@ -4,7 +4,7 @@ ghost use Rattle.trail.specs.Memory.{trailOf};
 ghost use Rattle.vsids.specs.Vsids.{vsidsOf};
 ghost use Rattle.heap_calls.specs.Memory.{sessionOf};
 ghost use Rattle.heap_calls.specs.Good.{GoodSession};
-ghost use Rattle.sheet.specs.Sheet.{inHeap};
+ghost use Rattle.sheet.specs.Stages.{inHeap};
 ghost use Rattle.sheet.specs.Running.{Room, Ended};
 use heap_line::HeapPlace;
 use heap_line::next_line;

@@ -9,7 +9,7 @@ ghost use Rattle.calls.specs.Entry.{Answered};
 ghost use Rattle.list_calls.specs.Memory.{sessionOf};
 ghost use Rattle.vmtf.specs.Good.{InOrder};
 ghost use Rattle.forms.specs.Read.{Fits, groupOn};
-ghost use Rattle.sheet.specs.Sheet.{called};
+ghost use Rattle.sheet.specs.Stages.{called};
 use forms::Count;
 use forms::FEW;
 use forms::MANY;

@@ -10,7 +10,8 @@ use Rattle.list_mode.specs.Kept.{IsGood}
 use Rattle.list_entry.specs.Checked.{kept}
 use Rattle.forms.specs.Forms.{callIn}
 use Rattle.sheet.specs.declared.Place.{Place}
-use Rattle.sheet.specs.Sheet.{called, inList, replyOf, answerLine}
+use Rattle.sheet.specs.Sheet.{answerLine}
+use Rattle.sheet.specs.Stages.{called, inList, replyOf}
 use Rattle.sheet.specs.Writing.{Wrote}
 use Rattle.sheet.specs.Replies.{list-reply}
 use Rattle.sheet.specs.Running.{lineLength, lineFrom, after, Room}

@@ -11,7 +11,7 @@ ghost use Rattle.calls.specs.Entry.{Answered};
 ghost use Rattle.list_calls.specs.Memory.{sessionOf};
 ghost use Rattle.list_calls.specs.Good.{GoodSession};
 ghost use Rattle.forms.specs.Forms.{callIn};
-ghost use Rattle.sheet.specs.Sheet.{called};
+ghost use Rattle.sheet.specs.Stages.{called};
 ghost use Rattle.sheet.specs.Running.{Room};
 ghost use Rattle.list_line.specs.Lines.{ListAlong};
 use forms::Read;

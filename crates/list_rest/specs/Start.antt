@@ -16,7 +16,7 @@ use Rattle.list_entry.specs.Entry.{stateOk}
 use Rattle.list_entry.specs.Checked.{state-right}
 use Rattle.forms.specs.Forms.{vmtf}
 use Rattle.sheet.specs.declared.Place.{Place}
-use Rattle.sheet.specs.Sheet.{inList, opened}
+use Rattle.sheet.specs.Stages.{inList, opened}
 use Rattle.sheet.specs.Running.{Ended}
 
 -- arrays with room for n variables

@@ -10,7 +10,7 @@ ghost use Rattle.trail.specs.Memory.{Lengths, trailOf};
 ghost use Rattle.vmtf.specs.Vmtf.{Literals, vmtfOf};
 ghost use Rattle.vmtf.specs.Vmtf as vmtf-spec;
 ghost use Rattle.forms.specs.Forms.{vmtf};
-ghost use Rattle.sheet.specs.Sheet as spec;
+ghost use Rattle.sheet.specs.Stages as spec;
 ghost use Rattle.sheet.specs.Running.{Room, Ended};
 ghost use Rattle.list_rest.specs.Start.{RoomIn};
 ghost use Rattle.list_rest.specs.Sizes as size;

@@ -7,7 +7,7 @@ ghost use Rattle.trail.specs.Memory.{trailOf};
 ghost use Rattle.vmtf.specs.Vmtf.{vmtfOf};
 ghost use Rattle.list_calls.specs.Memory.{sessionOf};
 ghost use Rattle.list_calls.specs.Good.{GoodSession};
-ghost use Rattle.sheet.specs.Sheet.{inList};
+ghost use Rattle.sheet.specs.Stages.{inList};
 ghost use Rattle.sheet.specs.Running.{Room, Ended};
 use list_line::ListPlace;
 use list_line::next_line;

@@ -19,7 +19,9 @@ use Rattle.calls.specs.Entry.{replyNumber}
 use Rattle.text.specs.Text.{tab, newline, digits}
 use Rattle.text.specs.Laws.{digits-two, digits-five, digits-room}
 use Rattle.forms.specs.Forms.{Mode, Opening, callIn, codesIn, firstIn}
-use Rattle.sheet.specs.Sheet.{Stage, reading, inHeap, inList, called, staged, clauseWith, meets, turn, replyText, replyOf, field, ending, answerLine, answers, opening, started, answered}
+use Rattle.sheet.specs.Sheet.{replyText, field, ending, answerLine, answered}
+use Rattle.sheet.specs.Turns.{answered-turns}
+use Rattle.sheet.specs.Stages.{Stage, reading, inHeap, inList, called, staged, clauseWith, meets, turn, replyOf, answers, opening, started}
 
 -- five digits, two and ten, two tabs and a newline
 reply-short : (r : Option ℕ) → length (replyText r) ≤ 10
@@ -122,7 +124,7 @@ started-short (refuse k) ls few h = omega (arith, answer-short 1 k none (omega a
 pub answered-short : (ls : List (List ℕ)) → length ls ≤ maxSheet → length (answered ls) ≤ answerRoom * length ls
 unfolding answered
 answered-short [] h = omega arith
-answered-short (line ∷ ls) h = started-short (opening (firstIn line)) ls (opening-few (firstIn line)) (omega arith)
+answered-short (line ∷ ls) h = rw (answered-turns line ls) (started-short (opening (firstIn line)) ls (opening-few (firstIn line)) (omega arith))
 
 -- none, or a number that is not the one for none
 abbrev pub Small : Option ℕ → Type 0

@@ -1,6 +1,7 @@
--- The run of a call sheet: its definition, term 3 of its answers, how answers are written, bounds on them, and the clause lines and session lines as code runs them.
+-- A call sheet: its answers, the run over its lines that gives them, how answers are written, bounds on them, and the clause lines and session lines as code runs them.
 pub mod Sheet
 pub mod Claim
+pub mod Stages
 pub mod Writing
 pub mod Bounds
 pub mod Replies
@@ -8,5 +9,6 @@ pub mod Called
 pub mod Running
 pub mod Steps
 pub mod ClauseLines
+pub mod Turns
 pub mod Section
 pub mod SessionLines

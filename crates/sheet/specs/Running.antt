@@ -13,7 +13,7 @@ use Rattle.forms.specs.Forms.{Mode, beginsClause}
 use Rattle.sheet.specs.declared.Place.{Place}
 use Rattle.sheet.specs.declared.clauses.Added.{Added}
 use Rattle.sheet.specs.declared.clauses.Section.{Section}
-use Rattle.sheet.specs.Sheet.{Stage, reading, clauseWith, answers}
+use Rattle.sheet.specs.Stages.{Stage, reading, clauseWith, answers}
 
 -- the lines from a place of the sheet on
 abbrev pub linesFrom : List ℕ → ℕ → List (List ℕ)

@@ -15,7 +15,8 @@ use Rattle.book.specs.Session.{status, reply}
 use Rattle.forms.specs.Forms.{Mode, vsids, beginsClause, codesIn}
 use Rattle.sheet.specs.declared.clauses.Added.{Added}
 use Rattle.sheet.specs.declared.clauses.Section.{Section}
-use Rattle.sheet.specs.Sheet.{Stage, answerLine}
+use Rattle.sheet.specs.Sheet.{answerLine}
+use Rattle.sheet.specs.Stages.{Stage}
 use Rattle.sheet.specs.Writing.{Wrote, same-room}
 use Rattle.sheet.specs.Bounds.{answer-short, turn-small}
 use Rattle.sheet.specs.Running.{linesFrom, lineLength, lineFrom, after, SameEnd, nextClause, stageOf, clauseOf, ClauseAdded, Takes, Ready, SoFar}

@@ -13,7 +13,8 @@ use Rattle.calls.specs.Entry.{Answered, replyNumber}
 use Rattle.text.specs.Text.{written}
 use Rattle.forms.specs.Forms.{callIn}
 use Rattle.sheet.specs.declared.Place.{Place}
-use Rattle.sheet.specs.Sheet.{Stage, called, staged, meets, turn, replyOf, answerLine, answers}
+use Rattle.sheet.specs.Sheet.{answerLine}
+use Rattle.sheet.specs.Stages.{Stage, called, staged, staged-status, staged-reply, staged-leaves, meets, turn, replyOf, answers}
 use Rattle.sheet.specs.Writing.{Wrote, same-room}
 use Rattle.sheet.specs.Bounds.{Small, answer-short, status-small, answer-text}
 use Rattle.sheet.specs.Running.{linesFrom, lineLength, lineFrom, after, Room, Ended, SameEnd}
@@ -45,20 +46,6 @@ module _ {S : Type 0} {Good : S → Type 0} {stage : S → Stage} {sheet : List 
 -- where no line is left, a run has ended, and the buffer stays
 pub nothing-left : {sheet out : List ℕ} {p : Place} (stage : Stage) → Room sheet p out → p .left ≡ 0 → Ended sheet p stage out (p .at) out
 nothing-left {p = p} stage room over = along-over {Good = λ (s : Stage). p .left ≡ 0} {stage = λ (s : Stage). s} (along-none {s = stage} room over) over
-
--- what the result of a line says of a session, it says of the stage
-module _ {S : Type 0} (stage : S → Stage) where
-  staged-status : (x : Result S) → status (staged stage x) ≡ status x
-  staged-status (done r s) = refl
-  staged-status (refuse k) = refl
-
-  staged-reply : (x : Result S) → reply (staged stage x) ≡ reply x
-  staged-reply (done r s) = refl
-  staged-reply (refuse k) = refl
-
-  staged-leaves : (s : S) (x : Result S) → leaves (stage s) (staged stage x) ≡ stage (leaves s x)
-  staged-leaves s (done r u) = refl
-  staged-leaves s (refuse k) = refl
 
 module _ {n m : ℕ} {O : Operations} (Good : Session n m O → Type 0) (s : Session n m O) where
   -- what every call keeps, every line keeps

@@ -1,77 +1,26 @@
--- The run of a call sheet: lines to answers. One line is one step, and the run goes over the lines.
+-- A call sheet: the answers to its lines, and what a host gets. Behind the clause lines the answers are the log of one run of the book.
 use Prim.Native.Nat.{ℕ, _+_, _*_, _-_}
 use mathlib.Core.Bool.{cond}
 use mathlib.Core.Option.{Option, none, some}
-use mathlib.Core.List.{List, [], _∷_, _++_}
-use lib.ListN.{length}
-use lib.Dec.{leb, eqb}
+use mathlib.Core.List.{List, [], _∷_, _++_, map, reverse}
+use lib.ListN.{length, drop}
+use lib.Dec.{leb}
 use Rattle.lit.specs.Numbers.{NONE, maxVars, maxSheet, answerRoom, longSheet, shortBuffer, badLine, manyVars, badClauses}
 use Rattle.formula.specs.Clauses.{clauseFits}
 use Rattle.formula.specs.Adding.{withEnd}
 use Rattle.choosers.specs.Heap.{heapOps}
 use Rattle.choosers.specs.List.{listOps}
-use Rattle.book.specs.Calls.{Call}
+use Rattle.book.specs.Calls.{Call, Line}
 use Rattle.book.specs.Chooser.{Operations}
-use Rattle.book.specs.Session.{Result, done, refuse, status, reply, leaves, need, Session, fresh, call}
+use Rattle.book.specs.Session.{Result, done, refuse, status, leaves, need}
+use Rattle.book.specs.Claim.{log, begin, run}
 use Rattle.text.specs.Text.{tab, newline, lines, occurs, digits}
 use Rattle.forms.specs.Forms.{Mode, vsids, vmtf, Opening, callIn, beginsClause, codesIn, firstIn}
-
--- Where a run stands between two lines: among the clause lines, or in a session of either mode.
-pub data Stage : Type 0 where
-  reading : Mode → ℕ → List ℕ → List ℕ → Stage
-  inHeap : (n : ℕ) (lits ends : List ℕ) → Session n (length ends) (heapOps n lits ends) → Stage
-  inList : (n : ℕ) (lits ends : List ℕ) → Session n (length ends) (listOps n lits) → Stage
-
--- a call on a session; 3 where the line has no call's form
-unfoldable pub called : (n m : ℕ) (O : Operations) → Session n m O → Option Call → Result (Session n m O)
-called n m O s none = refuse badLine
-called n m O s (some c) = call n m O s c
-
--- the result of a line: what it says of a session is said of the stage
-abbrev pub staged : {S : Type 0} → (S → Stage) → Result S → Result Stage
-staged f (done r s) = done r (f s)
-staged f (refuse k) = refuse k
-
-abbrev pub callLine : (n m : ℕ) (O : Operations) → (Session n m O → Stage) → Session n m O → List ℕ → Result Stage
-callLine n m O stage s line = staged stage (called n m O s (callIn line))
-
-abbrev pub heapLine : (n : ℕ) (lits ends : List ℕ) → Session n (length ends) (heapOps n lits ends) → List ℕ → Result Stage
-heapLine n lits ends = callLine n (length ends) (heapOps n lits ends) (inHeap n lits ends)
-
-abbrev pub listLine : (n : ℕ) (lits ends : List ℕ) → Session n (length ends) (listOps n lits) → List ℕ → Result Stage
-listLine n lits ends = callLine n (length ends) (listOps n lits) (inList n lits ends)
-
--- a clause line: 3 by its form, 6 where the longer list would break its paragraph
-abbrev pub clauseWith : Mode → ℕ → List ℕ → List ℕ → Option (List ℕ) → Result Stage
-clauseWith mode n lits ends none = refuse badLine
-clauseWith mode n lits ends (some codes) =
-    need (clauseFits n (length ends) (length lits) codes) badClauses (done none (reading mode n (lits ++ codes) (withEnd lits ends codes)))
-
--- 'The session is made fresh once these are read.'
-abbrev pub opened : Mode → ℕ → List ℕ → List ℕ → Stage
-opened vsids n lits ends = inHeap n lits ends (fresh n (length ends) (heapOps n lits ends))
-opened vmtf n lits ends = inList n lits ends (fresh n (length ends) (listOps n lits))
-
--- the stage that a line meets: 'up to the first line not beginning with c'
-abbrev pub meets : Stage → List ℕ → Stage
-meets (reading mode n lits ends) line = cond (beginsClause line) (reading mode n lits ends) (opened mode n lits ends)
-meets (inHeap n lits ends s) line = inHeap n lits ends s
-meets (inList n lits ends s) line = inList n lits ends s
-
--- the line, at that stage
-abbrev pub turn : Stage → List ℕ → Result Stage
-turn (reading mode n lits ends) line = clauseWith mode n lits ends (codesIn line)
-turn (inHeap n lits ends s) line = heapLine n lits ends s line
-turn (inList n lits ends s) line = listLine n lits ends s line
 
 -- 'else `-`, also for "none" and refusals'
 abbrev pub replyText : Option ℕ → List ℕ
 replyText none = 45 ∷ []
 replyText (some r) = digits r
-
--- a reply as code has it
-abbrev pub replyOf : ℕ → Option ℕ
-replyOf r = cond (eqb r NONE) none (some r)
 
 -- a number, with the tab behind it
 unfoldable pub field : ℕ → List ℕ
@@ -85,27 +34,64 @@ ending r = replyText r ++ (newline ∷ [])
 unfoldable pub answerLine : ℕ → ℕ → Option ℕ → List ℕ
 answerLine i k r = field i ++ (field k ++ ending r)
 
--- the answers to the lines from the i-th on
-unfoldable pub answers : ℕ → Stage → List (List ℕ) → List ℕ
-answers i stage [] = []
-answers i stage (line ∷ ls) =
-    let at = meets stage line in
-    let x = turn at line in
-    answerLine i (status x) (reply x) ++ answers (i + 1) (leaves at x) ls
+-- of what was read of lines, the calls
+unfoldable pub callsOf : List (Option Call) → List Call
+callsOf [] = []
+callsOf (none ∷ cs) = callsOf cs
+callsOf (some c ∷ cs) = c ∷ callsOf cs
 
--- the first line: 3 by its form, 4 above 2,048 variables
-abbrev pub opening : Option Opening → Result Stage
-opening none = refuse badLine
-opening (some o) = need (leb (o .vars) maxVars) manyVars (done none (reading (o .mode) (o .vars) [] []))
+-- the answers to lines from the i-th on: 3 where a line has no call's form, else the next of what a log says of the calls
+unfoldable pub logged : ℕ → List (Option Call) → List Line → List ℕ
+logged i [] ls = []
+logged i (none ∷ cs) ls = answerLine i badLine none ++ logged (i + 1) cs ls
+logged i (some c ∷ cs) [] = []
+logged i (some c ∷ cs) (l ∷ ls) = answerLine i (l .status) (l .reply) ++ logged (i + 1) cs ls
 
--- 'Refused, it gets its answer and the run ends.'
-abbrev pub started : Result Stage → List (List ℕ) → List ℕ
-started (done r stage) ls = answerLine 1 0 r ++ answers 2 stage ls
-started (refuse k) ls = answerLine 1 k none
+-- 'The session is made fresh once these are read': the log of a run of the book, the oldest first
+abbrev pub sessionAnswers : (n m : ℕ) (O : Operations) → ℕ → List (Option Call) → List ℕ
+sessionAnswers n m O i cs = logged i cs (reverse (log ((run n m O (begin n m O) (callsOf cs)) .past)))
+
+-- literals and ends of a clause list, and the chooser over them
+abbrev pub ClauseList : Type 0
+ClauseList = List ℕ × List ℕ
+
+abbrev pub chooserOf : Mode → ℕ → ClauseList → Operations
+chooserOf vsids n list = heapOps n (list .0) (list .1)
+chooserOf vmtf n list = listOps n (list .0)
+
+-- a clause line: 3 by its form, 6 where the longer list would break its paragraph
+abbrev pub added : ℕ → ClauseList → Option (List ℕ) → Result ClauseList
+added n list none = refuse badLine
+added n list (some codes) = need (clauseFits n (length (list .1)) (length (list .0)) codes) badClauses (done none (list .0 ++ codes, withEnd (list .0) (list .1) codes))
+
+-- 'clause lines .. up to the first line not beginning with c', the clause list that they leave, and their answers from the i-th on
+unfoldable pub clauseLines : List (List ℕ) → List (List ℕ)
+clauseLines [] = []
+clauseLines (line ∷ ls) = cond (beginsClause line) (line ∷ clauseLines ls) []
+
+unfoldable pub listed : ℕ → ClauseList → List (List ℕ) → ClauseList
+listed n list [] = list
+listed n list (line ∷ ls) = listed n (leaves list (added n list (codesIn line))) ls
+
+unfoldable pub clauseAnswers : ℕ → ℕ → ClauseList → List (List ℕ) → List ℕ
+clauseAnswers n i list [] = []
+clauseAnswers n i list (line ∷ ls) = let x = added n list (codesIn line) in answerLine i (status x) none ++ clauseAnswers n (i + 1) (leaves list x) ls
+
+-- behind the first line, from the i-th on: clause lines, then the session's
+unfoldable pub behindFirst : Mode → ℕ → ℕ → ClauseList → List (List ℕ) → List ℕ
+behindFirst mode n i start ls =
+    let cs = clauseLines ls in
+    let list = listed n start cs in
+    clauseAnswers n i start cs ++ sessionAnswers n (length (list .1)) (chooserOf mode n list) (i + length cs) (map callIn (drop (length cs) ls))
+
+-- the first line: 3 by its form, 4 above 2,048 variables. 'Refused, it gets its answer and the run ends.'
+abbrev pub fromFirst : Option Opening → List (List ℕ) → List ℕ
+fromFirst none ls = answerLine 1 badLine none
+fromFirst (some o) ls = cond (leb (o .vars) maxVars) (answerLine 1 0 none ++ behindFirst (o .mode) (o .vars) 2 ([], []) ls) (answerLine 1 manyVars none)
 
 unfoldable pub answered : List (List ℕ) → List ℕ
 answered [] = []
-answered (line ∷ ls) = started (opening (firstIn line)) ls
+answered (line ∷ ls) = fromFirst (firstIn line) ls
 
 -- 'the byte count written .., or refusal 1 or 2 as 4294967295 minus its number': what a host gets for a sheet and a buffer of so many bytes
 pub data Ran : Type 0 where

@@ -11,7 +11,8 @@ use Rattle.book.specs.Session.{status, reply, leaves}
 use Rattle.text.specs.Text.{newline, lines, occurs, find}
 use Rattle.text.specs.Laws.{occurs-found, occurs-next, lines-next, lines-end, written-append}
 use Rattle.sheet.specs.declared.Place.{Place}
-use Rattle.sheet.specs.Sheet.{Stage, meets, turn, answerLine, answers}
+use Rattle.sheet.specs.Sheet.{answerLine}
+use Rattle.sheet.specs.Stages.{Stage, meets, turn, answers}
 use Rattle.sheet.specs.Writing.{Wrote, same-room}
 use Rattle.sheet.specs.Running.{linesFrom, lineLength, lineFrom, after, Room, SameEnd}
 

@@ -4,7 +4,7 @@ use mathlib.Core.Path.{_≡_, refl, sym, subst, _∙_}
 use mathlib.Core.Bool.{true, true≢false}
 use native.Mathlib.Omega.{arith}
 use borrow.Author.Tests.{not-true}
-use Rattle.sheet.specs.Sheet.{Stage}
+use Rattle.sheet.specs.Stages.{Stage}
 use Rattle.sheet.specs.Running.{Ended}
 use Rattle.heap_rest.specs.Start.{started-heap, started-opened, started-good, started-sized, started-lengths, started-passes}
 use Rattle.heap_rest.proofs.heap_session.Statement.{statement}

@@ -5,7 +5,8 @@ use mathlib.Core.Option.{Option}
 use mathlib.Core.List.{_++_}
 use native.Mathlib.Omega.{arith}
 use lib.ListN.{length, length-append}
-use Rattle.sheet.specs.Sheet.{replyOf, field, ending, answerLine}
+use Rattle.sheet.specs.Sheet.{field, ending, answerLine}
+use Rattle.sheet.specs.Stages.{replyOf}
 use Rattle.sheet.specs.Writing.{put-more, same-room}
 use borrow.Author.Needs.{needs}
 use Rattle.sheet.proofs.answer.Statement.{statement}

@@ -1,0 +1,102 @@
+-- The run of a call sheet as code goes through it, line by line: one line is one step, at a stage of the run. Turns.antt shows that it gives the
+-- answers of Sheet.antt.
+use Prim.Native.Nat.{ℕ, _+_}
+use mathlib.Core.Path.{_≡_, refl}
+use mathlib.Core.Bool.{cond}
+use mathlib.Core.Option.{Option, none, some}
+use mathlib.Core.List.{List, [], _∷_, _++_}
+use lib.ListN.{length}
+use lib.Dec.{leb, eqb}
+use Rattle.lit.specs.Numbers.{NONE, maxVars, badLine, manyVars, badClauses}
+use Rattle.formula.specs.Clauses.{clauseFits}
+use Rattle.formula.specs.Adding.{withEnd}
+use Rattle.choosers.specs.Heap.{heapOps}
+use Rattle.choosers.specs.List.{listOps}
+use Rattle.book.specs.Calls.{Call}
+use Rattle.book.specs.Chooser.{Operations}
+use Rattle.book.specs.Session.{Result, done, refuse, status, reply, leaves, need, Session, fresh, call}
+use Rattle.forms.specs.Forms.{Mode, vsids, vmtf, Opening, callIn, beginsClause, codesIn}
+use Rattle.sheet.specs.Sheet.{answerLine}
+
+-- Where a run stands between two lines: among the clause lines, or in a session of either mode.
+pub data Stage : Type 0 where
+  reading : Mode → ℕ → List ℕ → List ℕ → Stage
+  inHeap : (n : ℕ) (lits ends : List ℕ) → Session n (length ends) (heapOps n lits ends) → Stage
+  inList : (n : ℕ) (lits ends : List ℕ) → Session n (length ends) (listOps n lits) → Stage
+
+-- a call on a session; 3 where the line has no call's form
+unfoldable pub called : (n m : ℕ) (O : Operations) → Session n m O → Option Call → Result (Session n m O)
+called n m O s none = refuse badLine
+called n m O s (some c) = call n m O s c
+
+-- the result of a line: what it says of a session is said of the stage
+abbrev pub staged : {S : Type 0} → (S → Stage) → Result S → Result Stage
+staged f (done r s) = done r (f s)
+staged f (refuse k) = refuse k
+
+module _ {S : Type 0} (stage : S → Stage) where
+  pub staged-status : (x : Result S) → status (staged stage x) ≡ status x
+  staged-status (done r s) = refl
+  staged-status (refuse k) = refl
+
+  pub staged-reply : (x : Result S) → reply (staged stage x) ≡ reply x
+  staged-reply (done r s) = refl
+  staged-reply (refuse k) = refl
+
+  pub staged-leaves : (s : S) (x : Result S) → leaves (stage s) (staged stage x) ≡ stage (leaves s x)
+  staged-leaves s (done r u) = refl
+  staged-leaves s (refuse k) = refl
+
+abbrev pub callLine : (n m : ℕ) (O : Operations) → (Session n m O → Stage) → Session n m O → List ℕ → Result Stage
+callLine n m O stage s line = staged stage (called n m O s (callIn line))
+
+abbrev pub heapLine : (n : ℕ) (lits ends : List ℕ) → Session n (length ends) (heapOps n lits ends) → List ℕ → Result Stage
+heapLine n lits ends = callLine n (length ends) (heapOps n lits ends) (inHeap n lits ends)
+
+abbrev pub listLine : (n : ℕ) (lits ends : List ℕ) → Session n (length ends) (listOps n lits) → List ℕ → Result Stage
+listLine n lits ends = callLine n (length ends) (listOps n lits) (inList n lits ends)
+
+-- a clause line: 3 by its form, 6 where the longer list would break its paragraph
+abbrev pub clauseWith : Mode → ℕ → List ℕ → List ℕ → Option (List ℕ) → Result Stage
+clauseWith mode n lits ends none = refuse badLine
+clauseWith mode n lits ends (some codes) =
+    need (clauseFits n (length ends) (length lits) codes) badClauses (done none (reading mode n (lits ++ codes) (withEnd lits ends codes)))
+
+-- 'The session is made fresh once these are read.'
+abbrev pub opened : Mode → ℕ → List ℕ → List ℕ → Stage
+opened vsids n lits ends = inHeap n lits ends (fresh n (length ends) (heapOps n lits ends))
+opened vmtf n lits ends = inList n lits ends (fresh n (length ends) (listOps n lits))
+
+-- the stage that a line meets: 'up to the first line not beginning with c'
+abbrev pub meets : Stage → List ℕ → Stage
+meets (reading mode n lits ends) line = cond (beginsClause line) (reading mode n lits ends) (opened mode n lits ends)
+meets (inHeap n lits ends s) line = inHeap n lits ends s
+meets (inList n lits ends s) line = inList n lits ends s
+
+-- the line, at that stage
+abbrev pub turn : Stage → List ℕ → Result Stage
+turn (reading mode n lits ends) line = clauseWith mode n lits ends (codesIn line)
+turn (inHeap n lits ends s) line = heapLine n lits ends s line
+turn (inList n lits ends s) line = listLine n lits ends s line
+
+-- a reply as code has it
+abbrev pub replyOf : ℕ → Option ℕ
+replyOf r = cond (eqb r NONE) none (some r)
+
+-- the answers to the lines from the i-th on
+unfoldable pub answers : ℕ → Stage → List (List ℕ) → List ℕ
+answers i stage [] = []
+answers i stage (line ∷ ls) =
+    let at = meets stage line in
+    let x = turn at line in
+    answerLine i (status x) (reply x) ++ answers (i + 1) (leaves at x) ls
+
+-- the first line: 3 by its form, 4 above 2,048 variables
+abbrev pub opening : Option Opening → Result Stage
+opening none = refuse badLine
+opening (some o) = need (leb (o .vars) maxVars) manyVars (done none (reading (o .mode) (o .vars) [] []))
+
+-- 'Refused, it gets its answer and the run ends.'
+abbrev pub started : Result Stage → List (List ℕ) → List ℕ
+started (done r stage) ls = answerLine 1 0 r ++ answers 2 stage ls
+started (refuse k) ls = answerLine 1 k none

@@ -1,0 +1,104 @@
+-- The run over stages gives a sheet's answers. By induction over the lines: among the clause lines each is one more of them; in a session a line
+-- with a call is a step of the book's run, and any other leaves the run as it is.
+use Prim.Native.Nat.{ℕ, suc, _+_}
+use mathlib.Core.Path.{_≡_, refl, sym, ap, _∙_}
+use mathlib.Core.Bool.{true, false}
+use mathlib.Core.Option.{Option, none, some}
+use mathlib.Core.List.{List, [], _∷_, _++_, map, reverse, append-nil, append-assoc, reverse-cons}
+use native.Mathlib.Omega.{arith}
+use lib.ListN.{length, drop}
+use lib.Dec.{leb}
+use Rattle.lit.specs.Numbers.{maxVars, badLine}
+use Rattle.laws.specs.Tests.{true-or-false}
+use Rattle.choosers.specs.Heap.{heapOps}
+use Rattle.choosers.specs.List.{listOps}
+use Rattle.book.specs.Calls.{Call, Line}
+use Rattle.book.specs.Chooser.{Operations}
+use Rattle.book.specs.Session.{status, reply, leaves, need, Session, fresh, call}
+use Rattle.book.specs.Claim.{log, Run, begin, step, run}
+use Rattle.forms.specs.Forms.{Mode, vsids, vmtf, Opening, callIn, codesIn, beginsClause, firstIn}
+use Rattle.sheet.specs.Sheet.{answerLine, callsOf, logged, sessionAnswers, ClauseList, chooserOf, added, clauseLines, listed, clauseAnswers, behindFirst, fromFirst, answered}
+use Rattle.sheet.specs.Stages.{Stage, inHeap, inList, called, staged-status, staged-reply, staged-leaves, opened, answers, opening, started}
+use Rattle.sheet.specs.ClauseLines.{section-over, onList, added-status, added-leaves, clause-reply}
+
+-- ---- a session
+module _ (n m : ℕ) (O : Operations) where
+  -- what a log holds of a call, and of the calls of lines that were read, the oldest first
+  abbrev lineOf : Run n m O → Call → Line
+  lineOf r c = let x = call n m O (r .now) c in record { call = c; status = status x; reply = reply x }
+
+  unfoldable linesOf : Run n m O → List (Option Call) → List Line
+  linesOf r [] = []
+  linesOf r (none ∷ cs) = linesOf r cs
+  linesOf r (some c ∷ cs) = lineOf r c ∷ linesOf (step n m O r c) cs
+
+  logs : (cs : List (Option Call)) (r : Run n m O) → reverse (log ((run n m O r (callsOf cs)) .past)) ≡ reverse (log (r .past)) ++ linesOf r cs
+  unfolding callsOf run step linesOf
+  logs [] r = sym (append-nil (reverse (log (r .past))))
+  logs (none ∷ cs) r = logs cs r
+  logs (some c ∷ cs) r =
+      let more = linesOf (step n m O r c) cs in
+      logs cs (step n m O r c) ∙ (rw (reverse-cons (lineOf r c) (log (r .past))) (append-assoc (reverse (log (r .past))) (lineOf r c ∷ []) more))
+
+  module _ (stage : Session n m O → Stage) where
+    -- how a line of the session is answered
+    abbrev Answers : Type 0
+    Answers = (s : Session n m O) (i : ℕ) (line : List ℕ) (ls : List (List ℕ)) → let x = called n m O s (callIn line) in
+        answers i (stage s) (line ∷ ls) ≡ answerLine i (status x) (reply x) ++ answers (i + 1) (stage (leaves s x)) ls
+
+    tells : Answers → (ls : List (List ℕ)) (r : Run n m O) (i : ℕ) → answers i (stage (r .now)) ls ≡ logged i (map callIn ls) (linesOf r (map callIn ls))
+    unfolding answers called step logged linesOf
+    tells a [] r i = refl
+    tells a (line ∷ ls) r i = a (r .now) i line ls ∙ go (callIn line) (tells a ls)
+      where
+        go : (c : Option Call) → ((u : Run n m O) (j : ℕ) → answers j (stage (u .now)) ls ≡ logged j (map callIn ls) (linesOf u (map callIn ls)))
+            → let x = called n m O (r .now) c in
+            answerLine i (status x) (reply x) ++ answers (i + 1) (stage (leaves (r .now) x)) ls ≡ logged i (c ∷ map callIn ls) (linesOf r (c ∷ map callIn ls))
+        go none ih = ap (λ (bs : List ℕ). answerLine i badLine none ++ bs) (ih r (i + 1))
+        go (some c) ih = let x = call n m O (r .now) c in ap (λ (bs : List ℕ). answerLine i (status x) (reply x) ++ bs) (ih (step n m O r c) (i + 1))
+
+    session : Answers → (i : ℕ) (ls : List (List ℕ)) → answers i (stage (fresh n m O)) ls ≡ sessionAnswers n m O i (map callIn ls)
+    unfolding begin
+    session a i ls = tells a ls (begin n m O) i ∙ ap (λ (log : List Line). logged i (map callIn ls) log) (sym (logs (map callIn ls) (begin n m O)))
+
+-- in either mode
+opened-answers : (mode : Mode) (n : ℕ) (list : ClauseList) (i : ℕ) (ls : List (List ℕ))
+    → answers i (opened mode n (list .0) (list .1)) ls ≡ sessionAnswers n (length (list .1)) (chooserOf mode n list) i (map callIn ls)
+unfolding answers
+opened-answers vsids n (lits, ends) i ls = session n (length ends) (heapOps n lits ends) (inHeap n lits ends) (λ s i line ls.
+    let x = called n (length ends) (heapOps n lits ends) s (callIn line) in
+    rw (staged-status (inHeap n lits ends) x, staged-reply (inHeap n lits ends) x, staged-leaves (inHeap n lits ends) s x)) i ls
+opened-answers vmtf n (lits, ends) i ls = session n (length ends) (listOps n lits) (inList n lits ends) (λ s i line ls.
+    let x = called n (length ends) (listOps n lits) s (callIn line) in
+    rw (staged-status (inList n lits ends) x, staged-reply (inList n lits ends) x, staged-leaves (inList n lits ends) s x)) i ls
+
+-- ---- the clause lines
+module _ (mode : Mode) (n : ℕ) where
+  -- from the first line on that is none
+  session-turns : (line : List ℕ) (ls : List (List ℕ)) (i : ℕ) (list : ClauseList) → beginsClause line ≡ false → behindFirst mode n i list (line ∷ ls) ≡ answers i (onList mode n list) (line ∷ ls)
+  unfolding behindFirst clauseLines listed clauseAnswers
+  session-turns line ls i list e =
+      let place : i + 0 ≡ i = omega arith in
+      rw (e, place) (sym (section-over i mode n (list .0) (list .1) (line ∷ ls) e ∙ opened-answers mode n list i (line ∷ ls)))
+
+  behind-turns : (ls : List (List ℕ)) (i : ℕ) (list : ClauseList) → behindFirst mode n i list ls ≡ answers i (onList mode n list) ls
+  unfolding behindFirst clauseLines listed clauseAnswers answers logged
+  behind-turns [] i list = refl
+  behind-turns (line ∷ ls) i list =
+      true-or-false (beginsClause line)
+      (λ e.
+      (let x = added n list (codesIn line) in
+      let cs = clauseLines ls in
+      let place : i + suc (length cs) ≡ i + 1 + length cs = omega arith in
+      rw (e, clause-reply mode n (list .0) (list .1) (codesIn line), added-status mode n list (codesIn line), added-leaves mode n list (codesIn line), place, sym (behind-turns ls (i + 1) (leaves list x)))
+      (append-assoc (answerLine i (status x) none) (clauseAnswers n (i + 1) (leaves list x) cs) _)))
+      (session-turns line ls i list)
+
+-- ---- a sheet
+pub answered-turns : (line : List ℕ) (ls : List (List ℕ)) → answered (line ∷ ls) ≡ started (opening (firstIn line)) ls
+unfolding answered need
+answered-turns line ls = go (firstIn line)
+  where
+    go : (o : Option Opening) → fromFirst o ls ≡ started (opening o) ls
+    go none = refl
+    go (some o) = true-or-false (leb (o .vars) maxVars) (λ e. rw (e, behind-turns (o .mode) (o .vars) ls 2 ([], []))) (λ e. rw e)
