@@ -12,12 +12,14 @@ use Rattle.forms.specs.Forms.{Mode, vsids, vmtf}
 use Rattle.sheet.specs.declared.Place.{Place}
 use Rattle.sheet.specs.declared.clauses.Section.{Section}
 use Rattle.sheet.specs.Stages.{reading, opened}
+use Rattle.heap_rest.specs.Sizes as heap-sizes
+use Rattle.list_rest.specs.Sizes as list-sizes
 use Rattle.sheet.specs.Running.{linesFrom, Room, Ended, nextClause, stageOf, Holds, Ready, SoFar}
 use Rattle.sheet.specs.ClauseLines.{section-over}
 
 -- how many variables are few, in heap mode and in list mode
 abbrev pub fewVars : Bool → ℕ
-fewVars heap = cond heap 128 32
+fewVars heap = cond heap heap-sizes.few list-sizes.few
 
 -- heap mode, or list mode
 abbrev pub modeOf : Bool → Mode

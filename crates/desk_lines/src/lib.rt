@@ -43,12 +43,12 @@ fn few_vars(heap: bool) -> u32
     ensures { λ r. ⌜ r ≡ fewVars heap ⌝ }
 {
     if heap {
-        return 128;
+        return heap_rest::FEW;
     }
-    32
+    list_rest::FEW
 }
 
-// The same with few variables. The shortest runs have this way to themselves, so that nothing long is set up for them.
+// The same with few variables. The shortest runs have this way to themselves, with none of the long arrays of a session.
 fn few_lines(
     sheet: &[u8],
     out: &mut [u8],

@@ -130,7 +130,7 @@ fn in_arrays(
 }
 
 // How many variables the shorter arrays of a session have room for: setting up long ones costs more than a short run.
-const FEW: u32 = 128;
+pub const FEW: u32 = 128;
 
 const SOME: u32 = 320;
 

@@ -164,7 +164,7 @@ fn in_arrays(
 }
 
 // How many variables the shorter arrays of a session have room for: setting up long ones costs more than a short run.
-const FEW: u32 = 32;
+pub const FEW: u32 = 32;
 
 const SOME: u32 = 256;
 
