@@ -1,6 +1,7 @@
 -- The run as a host sees it, and as the program prints it. Assumes nothing.
 use Prim.Native.Nat.{ℕ, _+_, _*_, _-_, _≤_, _<_}
 use mathlib.Core.Path.{_≡_, refl}
+use mathlib.Core.Option.{none}
 use mathlib.Core.List.{List, [], _∷_, _++_}
 use native.Mathlib.Omega.{arith}
 use borrow.Author.Tests.{leb-true, le-leb, lt-leb}
@@ -8,9 +9,10 @@ use lib.Dec.{leb}
 use lib.ListN.{length, set}
 use Rattle.laws.specs.Tests.{true-or-false}
 use Rattle.lit.specs.Numbers.{NONE, maxSheet, answerRoom, longSheet, shortBuffer}
+use Rattle.book.specs.Session.{Result, done, refuse, leaves, need}
 use Rattle.text.specs.Text.{newline, lines, occurs, digits, written}
 use Rattle.text.specs.Laws.{occurs-length, lines-end, lines-length, digits-one}
-use Rattle.sheet.specs.Sheet.{Ran, wrote, refused, answered, ran, result, bytes}
+use Rattle.sheet.specs.Sheet.{answered, ran, result}
 use Rattle.sheet.specs.Writing.{Wrote}
 use Rattle.sheet.specs.Bounds.{answered-short}
 use Rattle.sheet.specs.Running.{Room}
@@ -18,16 +20,16 @@ use Rattle.desk_first.specs.First.{atFirst}
 
 -- what the host gets and the buffer are the run's
 abbrev pub Gave : (sheet out : List ℕ) → ℕ → List ℕ → Type 0
-Gave sheet out r out′ = (r ≡ result (ran sheet (length out))) × (out′ ≡ written 0 (bytes (ran sheet (length out))) out)
+Gave sheet out r out′ = (r ≡ result (ran sheet (length out))) × (out′ ≡ written 0 (leaves [] (ran sheet (length out))) out)
 
 module _ (sheet out : List ℕ) where
   pub gave-long : maxSheet < length sheet → Gave sheet out (NONE - longSheet) out
-  unfolding ran written
+  unfolding ran need written
   gave-long long = let e = lt-leb (length sheet) maxSheet long in (rw e, rw e)
 
   module _ (short : length sheet ≤ maxSheet) where
     pub gave-no-room : length out < answerRoom * occurs newline sheet → Gave sheet out (NONE - shortBuffer) out
-    unfolding ran written
+    unfolding ran need written
     gave-no-room few =
         let a = le-leb (length sheet) maxSheet short in
         let b = lt-leb (answerRoom * occurs newline sheet) (length out) few in
@@ -35,7 +37,7 @@ module _ (sheet out : List ℕ) where
 
     module _ (room : answerRoom * occurs newline sheet ≤ length out) where
       pub gave-answers : {r : ℕ} {out′ : List ℕ} → Wrote 0 (answered (lines sheet)) out out′ r → Gave sheet out r out′
-      unfolding ran
+      unfolding ran need
       gave-answers w =
           let a = le-leb (length sheet) maxSheet short in
           let b = le-leb (answerRoom * occurs newline sheet) (length out) room in
@@ -43,7 +45,7 @@ module _ (sheet out : List ℕ) where
 
       pub gave-none : occurs newline sheet ≡ 0 → Gave sheet out 0 out
       unfolding answered written
-      gave-none none = gave-answers (rw (lines-end sheet none) (record { buffer = refl; place = refl }))
+      gave-none empty = gave-answers (rw (lines-end sheet empty) (record { buffer = refl; place = refl }))
 
       pub start-room : Room sheet (atFirst (occurs newline sheet)) out
       start-room = record {
@@ -55,15 +57,15 @@ module _ (sheet out : List ℕ) where
       }
 
 -- 'the program then prints 1 or 2 alone on a line'
-abbrev pub printed : Ran → List ℕ
-printed (wrote bs) = bs
-printed (refused k) = digits k ++ (newline ∷ [])
+abbrev pub printed : Result (List ℕ) → List ℕ
+printed (done r bytes) = bytes
+printed (refuse k) = digits k ++ (newline ∷ [])
 
 -- a run writes answers for which there was room, or is refused
 module _ (sheet : List ℕ) where
-  ran-is : (room : ℕ) (P : Ran → Type 0) → (length sheet ≤ maxSheet → answerRoom * occurs newline sheet ≤ room → P (wrote (answered (lines sheet))))
-      → P (refused shortBuffer) → P (refused longSheet) → P (ran sheet room)
-  unfolding ran
+  ran-is : (room : ℕ) (P : Result (List ℕ) → Type 0) → (length sheet ≤ maxSheet → answerRoom * occurs newline sheet ≤ room → P (done none (answered (lines sheet))))
+      → P (refuse shortBuffer) → P (refuse longSheet) → P (ran sheet room)
+  unfolding ran need
   ran-is room P answers short long =
       true-or-false (leb (length sheet) maxSheet)
       (λ a. rw a (true-or-false (leb (answerRoom * occurs newline sheet) room) (λ b. rw b (answers (leb-true (length sheet) maxSheet a) (leb-true (answerRoom * occurs newline sheet) room b))) (λ b. rw b short)))
@@ -78,7 +80,7 @@ module _ (sheet : List ℕ) where
 
   pub printed-fits : (room : ℕ) → 2 ≤ room → length (printed (ran sheet room)) ≤ room
   printed-fits room two =
-      ran-is room (λ (x : Ran). length (printed x) ≤ room)
+      ran-is room (λ (x : Result (List ℕ)). length (printed x) ≤ room)
       (λ short fits. omega (arith, lines-fit short))
       (rw (digits-one shortBuffer (omega arith)) two)
       (rw (digits-one longSheet (omega arith)) two)
@@ -87,7 +89,7 @@ module _ (sheet : List ℕ) where
 module _ (sheet out : List ℕ) {r : ℕ} {out′ : List ℕ} where
   pub printed-answers : Gave sheet out r out′ → r < NONE - shortBuffer → Wrote 0 (printed (ran sheet (length out))) out out′ r
   printed-answers g few =
-      ran-is sheet (length out) (λ (x : Ran). r ≡ result x → out′ ≡ written 0 (bytes x) out → Wrote 0 (printed x) out out′ r)
+      ran-is sheet (length out) (λ (x : Result (List ℕ)). r ≡ result x → out′ ≡ written 0 (leaves [] x) out → Wrote 0 (printed x) out out′ r)
       (λ short fits count buffer. record { buffer = buffer; place = omega (arith, count) })
       (λ count buffer. absurd (omega (arith, count, few)))
       (λ count buffer. absurd (omega (arith, count, few)))
@@ -102,7 +104,7 @@ module _ (sheet out : List ℕ) {r : ℕ} {out′ : List ℕ} where
 
   pub printed-refusal : Gave sheet out r out′ → NONE - shortBuffer ≤ r → Wrote 0 (printed (ran sheet (length out))) out (set (set out′ 0 (48 + (NONE - r))) 1 newline) 2
   printed-refusal g many =
-      ran-is sheet (length out) (λ (x : Ran). r ≡ result x → out′ ≡ written 0 (bytes x) out → Wrote 0 (printed x) out (set (set out′ 0 (48 + (NONE - r))) 1 newline) 2)
+      ran-is sheet (length out) (λ (x : Result (List ℕ)). r ≡ result x → out′ ≡ written 0 (leaves [] x) out → Wrote 0 (printed x) out (set (set out′ 0 (48 + (NONE - r))) 1 newline) 2)
       (λ short fits count buffer. absurd (omega (arith, count, many, few-bytes sheet short)))
       (λ count buffer. one-digit shortBuffer (omega arith) count buffer)
       (λ count buffer. one-digit longSheet (omega arith) count buffer)

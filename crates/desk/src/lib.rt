@@ -3,7 +3,9 @@ ghost use mathlib.Core.Path.{_≡_};
 ghost use Prim.Native.Nat.{_≤_};
 ghost use lib.ListN.{length};
 ghost use Rattle.text.specs.Text as text-spec;
-ghost use Rattle.sheet.specs.Sheet.{ran, result, bytes};
+ghost use mathlib.Core.List.{[]};
+ghost use Rattle.book.specs.Session.{leaves};
+ghost use Rattle.sheet.specs.Sheet.{ran, result};
 ghost use Rattle.sheet.specs.Writing.{Wrote};
 ghost use Rattle.desk.specs.Ran.{printed};
 use desk_first::answer_all;
@@ -18,7 +20,7 @@ use text::NEWLINE;
 // which takes its own where they are too few; what they hold afterwards is left open.
 pub fn run(sheet: &[u8], out: &mut [u8], positions: &mut [u32]) -> u32
     ensures { λ r. ⌜ r ≡ result (ran (now (sheet .entry)) (length (now (out .entry)))) ⌝ }
-    ensures { λ _. ⌜ now (out .exit) ≡ text-spec.written 0 (bytes (ran (now (sheet .entry)) (length (now (out .entry))))) (now (out .entry)) ⌝ }
+    ensures { λ _. ⌜ now (out .exit) ≡ text-spec.written 0 (leaves [] (ran (now (sheet .entry)) (length (now (out .entry))))) (now (out .entry)) ⌝ }
 {
     if sheet.len() > MAX_SHEET as usize {
         return NONE - LONG_SHEET;
@@ -52,7 +54,7 @@ pub fn print(sheet: &[u8], out: &mut [u8], positions: &mut [u32]) -> usize
 #[no_mangle]
 pub extern "C" fn sigvort_run(sheet: &[u8], out: &mut [u8]) -> u32
     ensures { λ r. ⌜ r ≡ result (ran (now (sheet .entry)) (length (now (out .entry)))) ⌝ }
-    ensures { λ _. ⌜ now (out .exit) ≡ text-spec.written 0 (bytes (ran (now (sheet .entry)) (length (now (out .entry))))) (now (out .entry)) ⌝ }
+    ensures { λ _. ⌜ now (out .exit) ≡ text-spec.written 0 (leaves [] (ran (now (sheet .entry)) (length (now (out .entry))))) (now (out .entry)) ⌝ }
 {
     let mut none = [NONE; 0];
     run(sheet, out, &mut none)

@@ -19,7 +19,7 @@ use Rattle.calls.specs.Entry.{replyNumber}
 use Rattle.text.specs.Text.{tab, newline, digits}
 use Rattle.text.specs.Laws.{digits-two, digits-five, digits-room}
 use Rattle.forms.specs.Forms.{Mode, Opening, callIn, codesIn, firstIn}
-use Rattle.sheet.specs.Sheet.{replyText, field, ending, answerLine, answered}
+use Rattle.sheet.specs.Sheet.{replyText, answerLine, answered}
 use Rattle.sheet.specs.Turns.{answered-turns}
 use Rattle.sheet.specs.Stages.{Stage, reading, inHeap, inList, called, staged, clauseWith, meets, turn, replyOf, answers, opening, started}
 
@@ -29,14 +29,12 @@ reply-short none = omega arith
 reply-short (some r) = digits-room 10 r
 
 pub answer-short : (i k : ℕ) (r : Option ℕ) → i < 100000 → k < 100 → length (answerLine i k r) ≤ answerRoom
-unfolding answerLine field ending
+unfolding answerLine
 answer-short i k r five two =
     omega (
       arith,
-      length-append (digits i ++ (tab ∷ [])) ((digits k ++ (tab ∷ [])) ++ (replyText r ++ (newline ∷ []))),
-      length-append (digits k ++ (tab ∷ [])) (replyText r ++ (newline ∷ [])),
-      length-append (digits i) (tab ∷ []),
-      length-append (digits k) (tab ∷ []),
+      length-append (digits i) (tab ∷ (digits k ++ (tab ∷ (replyText r ++ (newline ∷ []))))),
+      length-append (digits k) (tab ∷ (replyText r ++ (newline ∷ []))),
       length-append (replyText r) (newline ∷ []),
       digits-five i five,
       digits-two k two,

@@ -22,17 +22,9 @@ abbrev pub replyText : Option ℕ → List ℕ
 replyText none = 45 ∷ []
 replyText (some r) = digits r
 
--- a number, with the tab behind it
-unfoldable pub field : ℕ → List ℕ
-field n = digits n ++ (tab ∷ [])
-
--- a reply, with the newline behind it
-unfoldable pub ending : Option ℕ → List ℕ
-ending r = replyText r ++ (newline ∷ [])
-
 -- 'Answer line: line number from 1, status, reply.'
 unfoldable pub answerLine : ℕ → ℕ → Option ℕ → List ℕ
-answerLine i k r = field i ++ (field k ++ ending r)
+answerLine i k r = digits i ++ (tab ∷ (digits k ++ (tab ∷ (replyText r ++ (newline ∷ [])))))
 
 -- of what was read of lines, the calls
 unfoldable pub callsOf : List (Option Call) → List Call
@@ -93,22 +85,14 @@ unfoldable pub answered : List (List ℕ) → List ℕ
 answered [] = []
 answered (line ∷ ls) = fromFirst (firstIn line) ls
 
--- 'the byte count written .., or refusal 1 or 2 as 4294967295 minus its number': what a host gets for a sheet and a buffer of so many bytes
-pub data Ran : Type 0 where
-  wrote : List ℕ → Ran
-  refused : ℕ → Ran
-
-unfoldable pub ran : List ℕ → ℕ → Ran
+-- what a run of a sheet comes to with a buffer of so many bytes: the bytes that are written, or refusal 1 or 2
+unfoldable pub ran : List ℕ → ℕ → Result (List ℕ)
 ran sheet room =
-    cond (leb (length sheet) maxSheet)
-    (cond (leb (answerRoom * occurs newline sheet) room) (wrote (answered (lines sheet))) (refused shortBuffer))
-    (refused longSheet)
+    need (leb (length sheet) maxSheet) longSheet (
+    need (leb (answerRoom * occurs newline sheet) room) shortBuffer (
+    done none (answered (lines sheet))))
 
-abbrev pub result : Ran → ℕ
-result (wrote bs) = length bs
-result (refused k) = NONE - k
-
--- and the bytes that are written
-abbrev pub bytes : Ran → List ℕ
-bytes (wrote bs) = bs
-bytes (refused k) = []
+-- 'the byte count written .., or refusal 1 or 2 as 4294967295 minus its number': what a host gets
+abbrev pub result : Result (List ℕ) → ℕ
+result (done r bytes) = length bytes
+result (refuse k) = NONE - k

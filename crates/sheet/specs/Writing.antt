@@ -1,11 +1,13 @@
--- Writing piece by piece: what is written behind a piece is written with it.
+-- Writing piece by piece: what is written behind a piece is written with it; and the pieces of an answer line.
 use Prim.Native.Nat.{ℕ, _+_}
-use mathlib.Core.Path.{_≡_, refl, ap, _∙_}
-use mathlib.Core.List.{List, [], _∷_, _++_}
+use mathlib.Core.Path.{_≡_, refl, sym, ap, _∙_}
+use mathlib.Core.Option.{Option}
+use mathlib.Core.List.{List, [], _∷_, _++_, append-assoc}
 use native.Mathlib.Omega.{arith}
 use lib.ListN.{length, set, length-append}
-use Rattle.text.specs.Text.{written}
+use Rattle.text.specs.Text.{tab, newline, digits, written}
 use Rattle.text.specs.Laws.{written-append, written-length}
+use Rattle.sheet.specs.Sheet.{replyText, answerLine}
 
 -- the buffer r and the place k are what the bytes a leave, written into the buffer l from a place on
 pub record Wrote (at : ℕ) (a l r : List ℕ) (k : ℕ) : Type 0 where
@@ -25,3 +27,16 @@ put-one {r = r} {k} b w = put-more w (record { buffer = refl; place = refl })
 -- the buffer keeps its length
 pub same-room : {at : ℕ} {a l r : List ℕ} {k : ℕ} → Wrote at a l r k → length r ≡ length l
 same-room {at} {a} {l} w = ap length (w .buffer) ∙ written-length at a l
+
+-- a number, with the tab behind it
+unfoldable pub field : ℕ → List ℕ
+field n = digits n ++ (tab ∷ [])
+
+-- a reply, with the newline behind it
+unfoldable pub ending : Option ℕ → List ℕ
+ending r = replyText r ++ (newline ∷ [])
+
+-- an answer line is these
+pub answer-pieces : (i k : ℕ) (r : Option ℕ) → answerLine i k r ≡ field i ++ (field k ++ ending r)
+unfolding answerLine field ending
+answer-pieces i k r = rw (append-assoc (digits i) (tab ∷ []) ((digits k ++ (tab ∷ [])) ++ (replyText r ++ (newline ∷ []))), append-assoc (digits k) (tab ∷ []) (replyText r ++ (newline ∷ []))) refl
