@@ -1,5 +1,5 @@
--- A fresh list is good: `new-good`. Assumes nothing.
-use Prim.Native.Nat.{ℕ, suc, _+_, _-_, _<_, _≤_}
+-- A fresh list is good, `new-good`, and what it holds is fixed: `new-is`. Assumes nothing.
+use Prim.Native.Nat.{ℕ, zero, suc, _+_, _-_, _<_, _≤_}
 use mathlib.Core.Path.{_≡_, refl, sym, _∙_}
 use mathlib.Core.Logic.{_≢_, by-cases}
 use mathlib.Core.List.{List, [], _∷_}
@@ -74,21 +74,36 @@ link-row p (v ∷ vs) l once h =
       rw stamp (omega arith, rw add-one at (t .1)),
     )
 
+-- and its stamp is the number of those from it on
+link-stamps : (p : ℕ) (vs : List ℕ) (l : Vmtf) → ((w : ℕ) → count w vs ≤ 1) → ((w : ℕ) → 0 < count w vs → w < length (l .ts)) → (i : ℕ) → i < length vs → getD (linkFrom p vs l .ts) (getD vs i 0) 0 ≡ length vs - i
+unfolding linkFrom
+link-stamps p [] l once h i b = absurd (omega arith)
+link-stamps p (v ∷ vs) l once h zero b =
+    let k = link-kept v vs (linked p v (first vs) (length (v ∷ vs)) l) v (omega (arith, once v, count-here v v vs refl)) in
+    k .ts ∙ getD-set-same (l .ts) v (length (v ∷ vs)) 0 (h v (count-head v vs)) ∙ omega arith
+link-stamps p (v ∷ vs) l once h (suc i) b =
+    link-stamps v vs (linked p v (first vs) (length (v ∷ vs)) l) (λ w. omega (arith, once w, count-more w v vs)) (λ w q. simp length-set (h w (omega (arith, count-more w v vs)))) i (omega arith)
+    ∙ omega arith
+
 module _ (n : ℕ) (order : List ℕ) (small : n ≤ NONE) (long : length order ≡ n) (vars : (v : ℕ) → 0 < count v order → v < n) (once : (v : ℕ) → v < n → count v order ≡ 1) where
+  abbrev blank : Vmtf
+  blank = record {
+    next = replicate (length order) NONE;
+    prev = replicate (length order) NONE;
+    ts = replicate (length order) 0;
+    start = first order;
+    search = first order;
+    timestamp = length order + 1;
+  }
+
+  most : (w : ℕ) → count w order ≤ 1
+  most w = by-cases (decLt 0 (count w order)) (λ h. omega (arith, once w (vars w h))) (λ h. omega arith)
+
   pub make-good : GoodList n order (makeLinkedList order)
   unfolding makeLinkedList
   make-good =
-      let l : Vmtf = record {
-        next = replicate (length order) NONE;
-        prev = replicate (length order) NONE;
-        ts = replicate (length order) 0;
-        start = first order;
-        search = first order;
-        timestamp = length order + 1;
-      } in
-      let s = link-same NONE order l in
-      let most : (w : ℕ) → count w order ≤ 1 = λ w. by-cases (decLt 0 (count w order)) (λ h. omega (arith, once w (vars w h))) (λ h. omega arith) in
-      let r = link-row NONE order l most (λ w h.
+      let s = link-same NONE order blank in
+      let r = link-row NONE order blank most (λ w h.
       let b : w < length order = omega (arith, vars w h) in
       (simp length-replicate b, simp length-replicate b, simp length-replicate b)) in
       record {
@@ -106,6 +121,12 @@ module _ (n : ℕ) (order : List ℕ) (small : n ≤ NONE) (long : length order 
         search-in = λ d. rw (s .search) (vars (first order) (first-in order (λ e. d (s .search ∙ e))));
       }
 
+  pub make-is : let l = makeLinkedList order in (l .search ≡ l .start) × (l .timestamp ≡ n + 1) × ((i : ℕ) → i < n → getD (l .ts) (getD order i 0) 0 ≡ n - i)
+  unfolding makeLinkedList
+  make-is =
+      let s = link-same NONE order blank in
+      (s .search ∙ sym (s .start), rw (s .timestamp, long), λ i b. link-stamps NONE order blank most (λ w h. simp length-replicate (omega (arith, vars w h))) i (omega arith) ∙ omega arith)
+
 -- ---- the order of the counts
 
 module _ (n : ℕ) (codes : List ℕ) where
@@ -118,8 +139,17 @@ module _ (n : ℕ) (codes : List ℕ) where
       let r = stood (same-sym (lit-pairs n codes)) v (omega (arith, length-count (replicate n 0) codes, length-replicate {A = ℕ} n 0)) (omega (arith, length-upTo n)) in
       rw (r .is-right ∙ getD-upTo n v h) at (every-at (litOrder n codes) (r .place) (r .in-right))
 
+  lit-long : length (litOrder n codes) ≡ n
+  lit-long = lit-ordering n codes .long
+
+  lit-once : (v : ℕ) → v < n → count v (litOrder n codes) ≡ 1
+  lit-once = every-once n (litOrder n codes) lit-vars lit-every lit-long
+
   pub new-good : n ≤ NONE → GoodList n (litOrder n codes) (new n codes)
   unfolding new
-  new-good small =
-      let long : length (litOrder n codes) ≡ n = lit-ordering n codes .long in
-      make-good n (litOrder n codes) small long lit-vars (every-once n (litOrder n codes) lit-vars lit-every long)
+  new-good small = make-good n (litOrder n codes) small lit-long lit-vars lit-once
+
+  -- in that order, search at the front, stamps from n at the front down to 1: with the links of a good list this is all of its memory
+  pub new-is : n ≤ NONE → let l = new n codes in (l .search ≡ l .start) × (l .timestamp ≡ n + 1) × ((i : ℕ) → i < n → getD (l .ts) (getD (litOrder n codes) i 0) 0 ≡ n - i)
+  unfolding new
+  new-is small = make-is n (litOrder n codes) small lit-long lit-vars lit-once
