@@ -1,14 +1,19 @@
--- The book by the letter of document 01, proved by adding an entry at the end of the book that has the oldest first.
+-- The book by the letter of document 01, proved by adding an entry at the end of the book that has the oldest first; of the switches line by line.
 use Prim.Native.Nat.{ℕ, zero, suc, _+_, _≤_, _<_}
 use mathlib.Core.Path.{_≡_, refl, sym, ap, _∙_}
-use mathlib.Core.Bool.{Bool, true, false}
-use mathlib.Core.List.{List, [], _∷_, _++_, reverse, reverse-cons, map-append, append-nil}
+use mathlib.Core.Logic.{_↔_, _≢_, inl, inr}
+use mathlib.Core.Bool.{Bool, true, false, cond}
+use mathlib.Core.List.{List, [], _∷_, _++_, reverse, reverse-cons, map-append, append-nil, List·Memᴰ, List·Memᴰ·head, List·Memᴰ·tail, List·Memᴰ·cases-cons, List·Memᴰ·not-nil}
 use native.Mathlib.Omega.{arith}
 use native.Mathlib.Nat.{add-zero}
 use native.Mathlib.Decide.{decLt}
 use lib.ListN.{length, length-reverse}
-use Rattle.book.specs.Book.{Entry, entry, Book, presentLevel, back, codes, openings}
-use Rattle.book.specs.Letter.{keep, places, code, BackByTheLetter, CodesByTheLetter, OpeningsByTheLetter}
+use lib.Dec.{eqb}
+use borrow.Author.Tests.{eqb-true, eqb-false}
+use Rattle.laws.specs.Tests.{true-or-false}
+use Rattle.book.specs.Calls.{Call, bump, decay, setDecay, insert, switchOff, decide, enqueue, learnUnit, goBack, bumpReason, group, Line, accepted}
+use Rattle.book.specs.Book.{Entry, entry, Book, presentLevel, back, codes, openings, switched, on}
+use Rattle.book.specs.Letter.{keep, places, code, BackByTheLetter, CodesByTheLetter, OpeningsByTheLetter, OnByTheLetter}
 use Rattle.book.proofs.Books.{back-same, back-over}
 
 opens : Entry → ℕ
@@ -75,3 +80,41 @@ openings-by-the-letter (entry c r o ∷ b) =
     go : (o : Bool) → openings (entry c r o ∷ b) ≡ openings b ++ places (length b) (entry c r o ∷ [])
     go true = refl
     go false = sym (append-nil (openings b))
+
+kept : (x : Bool) {c : Call} {v : ℕ} → (c ≡ switchOff v → _≡_ {A = ℕ} 0 1) → (x ≡ true) ↔ ((x ≡ true) × (c ≢ switchOff v))
+kept x other = (λ e. (e, λ q. let z = other q in omega arith), λ p. p .0)
+
+-- after a call v is on exactly where it was before and the call is not its switch off
+switched-on : (c : Call) (s : ℕ → Bool) (v : ℕ) → (switched c s v ≡ true) ↔ ((s v ≡ true) × (c ≢ switchOff v))
+unfolding switched
+switched-on (switchOff w) s v =
+    true-or-false (eqb v w)
+    (λ e. rw e (λ f. absurd (let z : _≡_ {A = ℕ} 0 1 = cc in omega arith), λ p. absurd (p .1 (ap switchOff (sym (eqb-true v w e))))))
+    (λ e. rw e (kept (s v) (λ q. absurd (eqb-false v w e (cc)))))
+switched-on (bump w) s v = kept (s v) (λ q. cc)
+switched-on decay s v = kept (s v) (λ q. cc)
+switched-on (setDecay d) s v = kept (s v) (λ q. cc)
+switched-on (insert w) s v = kept (s v) (λ q. cc)
+switched-on (decide p) s v = kept (s v) (λ q. cc)
+switched-on (enqueue c r) s v = kept (s v) (λ q. cc)
+switched-on (learnUnit c) s v = kept (s v) (λ q. cc)
+switched-on (goBack l) s v = kept (s v) (λ q. cc)
+switched-on (bumpReason w) s v = kept (s v) (λ q. cc)
+switched-on (group vs) s v = kept (s v) (λ q. cc)
+
+-- the accepted lines of ls do not switch v off
+abbrev NeverOff : List Line → ℕ → Type 0
+NeverOff ls v = (l : Line) → List·Memᴰ l ls → accepted l ≡ true → l .call ≢ switchOff v
+
+never-cons : {k : Line} {ls : List Line} {v : ℕ} → (accepted k ≡ true → k .call ≢ switchOff v) → NeverOff ls v → NeverOff (k ∷ ls) v
+never-cons f g l i a = elim (List·Memᴰ·cases-cons i) [ inl e ↦ rw e (f (rw e at a)) | inr j ↦ g l j a ]
+
+pub on-by-the-letter : OnByTheLetter
+unfolding on
+on-by-the-letter [] v = (λ e l i. absurd (List·Memᴰ·not-nil i), λ f. refl)
+on-by-the-letter (k ∷ ls) v =
+    let older = on-by-the-letter ls v in
+    let here = switched-on (k .call) (on ls) v in
+    true-or-false (accepted k)
+    (λ a. rw a (λ e. never-cons (λ b. here .0 e .1) (older .0 (here .0 e .0)), λ f. here .1 (older .1 (λ l i. f l (List·Memᴰ·tail i)), f k (List·Memᴰ·head refl) a)))
+    (λ a. rw a (λ e. never-cons (λ b. absurd (let z : _≡_ {A = ℕ} 0 1 = cc in omega arith)) (older .0 e), λ f. older .1 (λ l i. f l (List·Memᴰ·tail i))))
