@@ -47,9 +47,9 @@ abbrev pub Doubles : Vsids → Type 0
 Doubles h = (v : ℕ) → v < length (h .activity) → T (fits binary64 (getD (h .activity) v nan))
 
 -- for memory of the right lengths over good clauses: the check passes exactly the good sessions
-pub state-right : (n m : ℕ) (lits ends : List ℕ) (t : Trail) (h : Vsids) → n ≤ maxVars → length ends ≡ m → GoodClauses n lits ends → Sized n t → HeapSized n h → Doubles h
+pub state-right : (n m : ℕ) (lits ends : List ℕ) (t : Trail) (h : Vsids) → n ≤ maxVars → length ends ≡ m → GoodClauses n lits ends → Sized n t → heapLengths n h ≡ true → Doubles h
     → (stateOk m t h ≡ true) ↔ GoodSession n m lits ends t h
-state-right n m lits ends t h small count clauses sized z doubles = (
+state-right n m lits ends t h small count clauses sized long doubles = let z = heap-sized n h long in (
   subst (λ (k : ℕ). n ≤ maxVars → GoodClauses n lits ends → Sized n t → stateOk k t h ≡ true → GoodSession n k lits ends t h) count
       (subst (λ (k : ℕ). k ≤ maxVars → GoodClauses k lits ends → Sized k t → stateOk (length ends) t h ≡ true → GoodSession k (length ends) lits ends t h) (z .activity-long)
       (λ b g k e. checked-good lits ends t h b g k
@@ -63,7 +63,7 @@ unfoldable pub heap-sound : (n m : ℕ) (lits ends : List ℕ) → Sound n m (he
 heap-sound n m lits ends = record {
   Good = IsGood n m lits ends;
   Typed = Doubles;
-  right = λ s small count clauses sized long doubles. state-right n m lits ends (s .trail) (s .chooser) small count clauses sized (heap-sized n (s .chooser) long) doubles;
+  right = λ s. state-right n m lits ends (s .trail) (s .chooser);
   small = λ s g. g .small;
   trail-sized = λ s g. g .trail .lengths;
   chooser-sized = λ s g. let h = g .heap in sized-heap n (s .chooser) (record {

@@ -37,13 +37,17 @@ list-sized n l e =
     let z = both _ _ _ _ (and-right (eqb (length (l .next)) n) _ e) in
     record { next-long = eqb-true _ _ (and-left (eqb (length (l .next)) n) _ e); prev-long = z .0; ts-long = z .1 }
 
-pub sized-list : (n : ℕ) (l : Vmtf) → ListSized n l → listLengths n l ≡ true
+sized-list : (n : ℕ) (l : Vmtf) → ListSized n l → listLengths n l ≡ true
 sized-list n l z = rw (eq-eqb _ _ (z .next-long), eq-eqb _ _ (z .prev-long), eq-eqb _ _ (z .ts-long))
 
+-- of a good session it passes
+pub good-sized : {n m : ℕ} {t : Trail} {l : Vmtf} → GoodSession n m t l → listLengths n l ≡ true
+good-sized {n} {l = l} g = sized-list n l (record { next-long = g .list .1 .linked .next-long; prev-long = g .list .1 .linked .prev-long; ts-long = g .list .1 .ts-long })
+
 -- for memory of the right lengths: the check passes exactly the good sessions
-pub state-right : (n m : ℕ) (t : Trail) (l : Vmtf) → n ≤ maxVars → Sized n t → ListSized n l → (stateOk m t l ≡ true) ↔ GoodSession n m t l
+pub state-right : (n m : ℕ) (t : Trail) (l : Vmtf) → n ≤ maxVars → Sized n t → listLengths n l ≡ true → (stateOk m t l ≡ true) ↔ GoodSession n m t l
 unfolding stateOk
-state-right n m t l small sized z = (
+state-right n m t l small sized long = let z = list-sized n l long in (
   λ e. record {
     small = small;
     trail = trail-right n m t sized .0 (and-left (trailOk m t) (checkList l) e);
@@ -68,10 +72,10 @@ unfoldable pub list-sound : (n m : ℕ) (lits ends : List ℕ) → Sound n m (li
 list-sound n m lits ends = record {
   Good = IsGood n m lits;
   Typed = λ l. Unit {0};
-  right = λ s small _ _ sized long _. state-right n m (s .trail) (s .chooser) small sized (list-sized n (s .chooser) long);
+  right = λ s small _ _ sized long _. state-right n m (s .trail) (s .chooser) small sized long;
   small = λ s g. g .small;
   trail-sized = λ s g. g .trail .lengths;
-  chooser-sized = λ s g. sized-list n (s .chooser) (record { next-long = g .list .1 .linked .next-long; prev-long = g .list .1 .linked .prev-long; ts-long = g .list .1 .ts-long });
+  chooser-sized = λ s g. good-sized g;
   chooser-typed = λ s g. tt;
   fresh-good = λ small _ _. fresh-good-session n m lits small;
   kept = kept n m lits;

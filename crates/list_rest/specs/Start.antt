@@ -13,7 +13,7 @@ use Rattle.book.specs.Session.{fresh}
 use Rattle.list_calls.specs.Good.{GoodSession}
 use Rattle.list_mode.specs.Kept.{fresh-good-session}
 use Rattle.list_entry.specs.Entry.{stateOk}
-use Rattle.list_entry.specs.Checked.{state-right}
+use Rattle.list_entry.specs.Checked.{good-sized, state-right}
 use Rattle.forms.specs.Forms.{vmtf}
 use Rattle.sheet.specs.declared.Place.{Place}
 use Rattle.sheet.specs.Stages.{inList, opened}
@@ -54,8 +54,7 @@ module _ {n : ℕ} (lits : List ℕ) (small : n ≤ maxVars) {t : Trail} {l : Vm
   pub started-passes : (m : ℕ) → stateOk m t l ≡ true
   started-passes m =
       let g = started-good m in
-      state-right n m t l small (g .trail .lengths)
-      (record { next-long = g .list .1 .linked .next-long; prev-long = g .list .1 .linked .prev-long; ts-long = g .list .1 .ts-long }) .1 g
+      state-right n m t l small (g .trail .lengths) (good-sized g) .1 g
 
   pub started-ended : (ends : List ℕ) {sheet out out′ : List ℕ} {p : Place} {r : ℕ} → Ended sheet p (inList n lits ends (record { trail = t; chooser = l })) out r out′ → Ended sheet p (opened vmtf n lits ends) out r out′
   unfolding fresh
