@@ -95,9 +95,13 @@ module _ (n m : ℕ) (O : Operations) where
     pub now : Session n m O
     pub past : Past
 
+  -- a run that starts with the session s
+  abbrev pub startingWith : Session n m O → Run
+  startingWith s = record { now = s; past = [] }
+
   -- 'from any fresh session'
   unfoldable pub begin : Run
-  begin = record { now = fresh n m O; past = [] }
+  begin = startingWith (fresh n m O)
 
   -- the run with one more call, and what it came to: 'each call getting the state the last one left and nobody else writing it'
   abbrev pub extended : Run → Call → Result (Session n m O) → Run

@@ -9,7 +9,7 @@ use Rattle.laws.specs.Tests.{cond-elim}
 use Rattle.book.specs.Calls.{Call}
 use Rattle.book.specs.Chooser.{Chooser}
 use Rattle.book.specs.Session.{Result, refuse, status, leaves, Session, call}
-use Rattle.book.specs.Claim.{Run, begin, extended, Claim}
+use Rattle.book.specs.Claim.{Run, startingWith, begin, extended, Claim}
 use Rattle.book.specs.Guarded.{Guarded, itself, declined}
 use Rattle.book.proofs.Term3.{Inv, began}
 use Rattle.book.proofs.Guarded.{answered}
@@ -46,16 +46,12 @@ module _ (n m : ℕ) (M : Mode) (lits : List ℕ) (literals : ℕ) (ends : List 
   pub checked-term3 : Chooser n m (M .ops) → (asks : List Lent) → Claim n m (M .ops) (runChecked (begin n m (M .ops)) asks)
   checked-term3 C asks = along (Inv n m (M .ops) C) (λ r c x g i. answered n m (M .ops) C r c g i) (begin n m (M .ops)) asks (began n m (M .ops) C) .claim
 
-  -- a run that starts with the session s
-  abbrev pub startingWith : Session n m (M .ops) → Run n m (M .ops)
-  startingWith s = record { now = s; past = [] }
-
   -- and so from every session that an accepted creation made
   pub made-term3 : (Founded n m lits ends → Chooser n m (M .ops)) → (scratch : Bool) (s : Session n m (M .ops)) → status (made n m M lits literals ends scratch s) ≡ 0
-      → (asks : List Lent) → Claim n m (M .ops) (runChecked (startingWith (leaves s (made n m M lits literals ends scratch s))) asks)
+      → (asks : List Lent) → Claim n m (M .ops) (runChecked (startingWith n m (M .ops) (leaves s (made n m M lits literals ends scratch s))) asks)
   unfolding begin
   made-term3 C scratch s e asks =
-      subst (λ (u : Session n m (M .ops)). Claim n m (M .ops) (runChecked (startingWith u) asks))
+      subst (λ (u : Session n m (M .ops)). Claim n m (M .ops) (runChecked (startingWith n m (M .ops) u) asks))
       (sym (made-fresh n m M lits literals ends scratch s e))
       (checked-term3 (C (made-sizes n m M lits literals ends scratch s e)) asks)
 

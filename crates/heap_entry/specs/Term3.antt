@@ -7,11 +7,12 @@ use lib.ListN.{length}
 use Rattle.choosers.specs.Heap.{heapOps}
 use Rattle.book.specs.Chooser.{Chooser}
 use Rattle.book.specs.Session.{status, leaves, Session, call}
-use Rattle.book.specs.Claim.{Run, begin, Claim}
+use Rattle.book.specs.Claim.{startingWith, begin, Claim}
 use Rattle.entry.specs.Asked.{Asked, asked, Elsewhere, Lent}
 use Rattle.entry.specs.Entered as either
 use Rattle.entry.specs.Entered.{RightScratch, Founded}
 use Rattle.entry.specs.Runs as runs
+use Rattle.entry.specs.Runs.{runChecked}
 use Rattle.heap_entry.specs.Entry.{heapMode, entered, made}
 use Rattle.heap_entry.specs.Kept.{chooser, IsGood}
 use Rattle.heap_entry.specs.Checked.{heap-sound}
@@ -20,13 +21,6 @@ module _ (n m : ℕ) (lits : List ℕ) (literals : ℕ) (ends : List ℕ) where
   -- the status of a call on the session's memory that is lent with other sizes or another clause list
   abbrev pub elsewhere : Session n m (heapOps n lits ends) → Elsewhere → ℕ
   elsewhere s o = status (entered (o .n) (o .m) (o .lits) (o .literals) (o .ends) (o .ask) (record { trail = s .trail; chooser = s .chooser }))
-
-  -- a run as in `book`, of checked calls
-  abbrev pub runChecked : Run n m (heapOps n lits ends) → List Lent → Run n m (heapOps n lits ends)
-  runChecked = runs.runChecked n m (heapMode n m lits ends) lits literals ends elsewhere
-
-  abbrev pub startingWith : Session n m (heapOps n lits ends) → Run n m (heapOps n lits ends)
-  startingWith = runs.startingWith n m (heapMode n m lits ends) lits literals ends elsewhere
 
   chosen : Founded n m lits ends → Chooser n m (heapOps n lits ends)
   chosen f = chooser n m lits ends (f .small) (f .stated) (f .clauses)
@@ -37,21 +31,23 @@ module _ (n m : ℕ) (lits : List ℕ) (literals : ℕ) (ends : List ℕ) where
   made-begins s = either.made-fresh n m (heapMode n m lits ends) lits literals ends true s
 
   -- Term 3: over every list of calls from the session that an accepted creation made, refused ones included, whatever is lent with them
-  pub made-term3 : (s : Session n m (heapOps n lits ends)) → status (made n m lits literals ends s) ≡ 0
-      → (asks : List Lent) → Claim n m (heapOps n lits ends) (runChecked (startingWith (leaves s (made n m lits literals ends s))) asks)
+  pub made-term3 : (s : Session n m (heapOps n lits ends)) → status (made n m lits literals ends s) ≡ 0 → (asks : List Lent)
+      → let r = startingWith n m (heapOps n lits ends) (leaves s (made n m lits literals ends s)) in
+      Claim n m (heapOps n lits ends) (runChecked n m (heapMode n m lits ends) lits literals ends elsewhere r asks)
   made-term3 = runs.made-term3 n m (heapMode n m lits ends) lits literals ends elsewhere chosen true
 
   module _ (founded : Founded n m lits ends) (asks : List Lent) where
     -- and from every fresh session with at most 2,048 variables and a good clause list
-    pub heap-term3 : Claim n m (heapOps n lits ends) (runChecked (begin n m (heapOps n lits ends)) asks)
+    pub heap-term3 : Claim n m (heapOps n lits ends) (runChecked n m (heapMode n m lits ends) lits literals ends elsewhere (begin n m (heapOps n lits ends)) asks)
     heap-term3 = runs.checked-term3 n m (heapMode n m lits ends) lits literals ends elsewhere (chosen founded) asks
 
     -- every session of such a run is good
-    pub run-good : IsGood n m lits ends ((runChecked (begin n m (heapOps n lits ends)) asks) .now)
+    pub run-good : IsGood n m lits ends ((runChecked n m (heapMode n m lits ends) lits literals ends elsewhere (begin n m (heapOps n lits ends)) asks) .now)
     unfolding heap-sound
     run-good = runs.run-good n m (heapMode n m lits ends) lits literals ends elsewhere (heap-sound n m lits ends) founded asks
 
     -- so a call lent as the session was made is refused before its own tests only for its scratch
-    pub run-unchecked : length lits ≡ literals → (a : Asked) → RightScratch a → let s = (runChecked (begin n m (heapOps n lits ends)) asks) .now in
+    pub run-unchecked : length lits ≡ literals → (a : Asked) → RightScratch a
+        → let s = (runChecked n m (heapMode n m lits ends) lits literals ends elsewhere (begin n m (heapOps n lits ends)) asks) .now in
         entered n m lits literals ends a s ≡ call n m (heapOps n lits ends) s (asked a)
     run-unchecked el a z = runs.run-unchecked n m (heapMode n m lits ends) lits literals ends elsewhere (heap-sound n m lits ends) founded el asks a z

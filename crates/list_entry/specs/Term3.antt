@@ -8,12 +8,13 @@ use Rattle.lit.specs.Numbers.{maxVars}
 use Rattle.choosers.specs.List.{listOps, list-chooser}
 use Rattle.book.specs.Chooser.{Chooser}
 use Rattle.book.specs.Session.{status, leaves, Session, call}
-use Rattle.book.specs.Claim.{Run, begin, Claim}
+use Rattle.book.specs.Claim.{startingWith, begin, Claim}
 use Rattle.entry.specs.Asked.{Asked, asked, Elsewhere, Lent}
 use Rattle.entry.specs.Entered as either
 use Rattle.entry.specs.Entered.{RightScratch, Founded}
 use Rattle.entry.specs.Mode.{scratchLengths}
 use Rattle.entry.specs.Runs as runs
+use Rattle.entry.specs.Runs.{runChecked}
 use Rattle.list_mode.specs.Kept.{IsGood}
 use Rattle.list_entry.specs.Entry.{listMode, entered, made}
 use Rattle.list_entry.specs.Checked.{list-sound}
@@ -22,13 +23,6 @@ module _ (n m : ℕ) (lits : List ℕ) (literals : ℕ) (ends : List ℕ) where
   -- the status of a call on the session's memory that is lent with other sizes or another clause list
   abbrev pub elsewhere : Session n m (listOps n lits) → Elsewhere → ℕ
   elsewhere s o = status (entered (o .n) (o .m) (o .lits) (o .literals) (o .ends) (o .ask) (record { trail = s .trail; chooser = s .chooser }))
-
-  -- a run as in `book`, of checked calls
-  abbrev pub runChecked : Run n m (listOps n lits) → List Lent → Run n m (listOps n lits)
-  runChecked = runs.runChecked n m (listMode n m lits) lits literals ends elsewhere
-
-  abbrev pub startingWith : Session n m (listOps n lits) → Run n m (listOps n lits)
-  startingWith = runs.startingWith n m (listMode n m lits) lits literals ends elsewhere
 
   chosen : n ≤ maxVars → Chooser n m (listOps n lits)
   chosen small = list-chooser n m lits (omega arith)
@@ -40,20 +34,22 @@ module _ (n m : ℕ) (lits : List ℕ) (literals : ℕ) (ends : List ℕ) where
     made-begins = either.made-fresh n m (listMode n m lits) lits literals ends (scratchLengths n (length counts) (length indexes)) s accepted
 
     -- Term 3: over every list of calls from the session that an accepted creation made, refused ones included, whatever is lent with them
-    pub made-term3 : (asks : List Lent) → Claim n m (listOps n lits) (runChecked (startingWith (leaves s (made n m lits literals ends counts indexes s))) asks)
+    pub made-term3 : (asks : List Lent) → let r = startingWith n m (listOps n lits) (leaves s (made n m lits literals ends counts indexes s)) in
+        Claim n m (listOps n lits) (runChecked n m (listMode n m lits) lits literals ends elsewhere r asks)
     made-term3 = runs.made-term3 n m (listMode n m lits) lits literals ends elsewhere (λ f. chosen (f .small)) (scratchLengths n (length counts) (length indexes)) s accepted
 
   -- and from every fresh session with at most 2,048 variables
-  pub list-term3 : n ≤ maxVars → (asks : List Lent) → Claim n m (listOps n lits) (runChecked (begin n m (listOps n lits)) asks)
+  pub list-term3 : n ≤ maxVars → (asks : List Lent) → Claim n m (listOps n lits) (runChecked n m (listMode n m lits) lits literals ends elsewhere (begin n m (listOps n lits)) asks)
   list-term3 small = runs.checked-term3 n m (listMode n m lits) lits literals ends elsewhere (chosen small)
 
   module _ (founded : Founded n m lits ends) (asks : List Lent) where
     -- every session of such a run is good
-    pub run-good : IsGood n m lits ((runChecked (begin n m (listOps n lits)) asks) .now)
+    pub run-good : IsGood n m lits ((runChecked n m (listMode n m lits) lits literals ends elsewhere (begin n m (listOps n lits)) asks) .now)
     unfolding list-sound
     run-good = runs.run-good n m (listMode n m lits) lits literals ends elsewhere (list-sound n m lits ends) founded asks
 
     -- so a call lent as the session was made is refused before its own tests only for its scratch
-    pub run-unchecked : length lits ≡ literals → (a : Asked) → RightScratch a → let s = (runChecked (begin n m (listOps n lits)) asks) .now in
+    pub run-unchecked : length lits ≡ literals → (a : Asked) → RightScratch a
+        → let s = (runChecked n m (listMode n m lits) lits literals ends elsewhere (begin n m (listOps n lits)) asks) .now in
         entered n m lits literals ends a s ≡ call n m (listOps n lits) s (asked a)
     run-unchecked el a z = runs.run-unchecked n m (listMode n m lits) lits literals ends elsewhere (list-sound n m lits ends) founded el asks a z
