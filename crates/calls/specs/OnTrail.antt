@@ -12,7 +12,8 @@ use Rattle.trail.specs.Trail.{Trail, enqAssignment, backtrackSafe}
 use Rattle.trail.specs.Trail as trail
 use Rattle.trail.specs.declared.TrailState.{TrailState}
 use Rattle.trail.specs.Memory.{RoomFor}
-use Rattle.trail.specs.Good.{valueAt, GoodTrail}
+use Rattle.trail.specs.Good.{GoodTrail}
+use Rattle.trail.specs.At.{valueAt}
 use Rattle.trail.specs.Laws.{not-assigned, level-len, room-for, room-var}
 use Rattle.trail.specs.Back.{back-good}
 use Rattle.book.specs.Calls.{enqueue, learnUnit, goBack}

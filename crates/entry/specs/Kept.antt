@@ -14,7 +14,8 @@ use Rattle.laws.specs.Choices.{or-right, or-cases}
 use Rattle.lit.specs.Numbers.{NONE, unassigned}
 use Rattle.lit.specs.Lits.{index, polarity, isAssigned}
 use Rattle.trail.specs.Trail.{Trail, enqAssignment, enqDecision, backtrackTo, backtrackSafe, undone}
-use Rattle.trail.specs.Good.{valueAt, IsReason, GoodTrail}
+use Rattle.trail.specs.Good.{IsReason, GoodTrail}
+use Rattle.trail.specs.At.{valueAt}
 use Rattle.trail.specs.Laws.{enq-good, dec-good}
 use Rattle.trail.specs.Back.{back-good}
 use Rattle.trail.specs.Undone.{undone-in, unset, back-values}

@@ -11,7 +11,8 @@ use lib.ListN.{length, getD}
 use Rattle.laws.specs.Tests.{cond-elim}
 use Rattle.lit.specs.Lits.{index}
 use Rattle.trail.specs.Trail.{Trail, backtrackSafe, backtrackTo, undone}
-use Rattle.trail.specs.Good.{varAt, openedAt, GoodTrail}
+use Rattle.trail.specs.Good.{varAt, GoodTrail}
+use Rattle.trail.specs.At.{openedAt}
 use Rattle.trail.specs.Undone.{between, between-none, between-more}
 use Rattle.activity.specs.declared.Step.{Step}
 use Rattle.heap.specs.Heap.{inHeap}

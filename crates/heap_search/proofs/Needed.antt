@@ -10,7 +10,8 @@ use lib.ListN.{getD}
 use Rattle.laws.specs.Tests.{and-right}
 use Rattle.lit.specs.Numbers.{unassigned}
 use Rattle.trail.specs.Trail.{Trail}
-use Rattle.trail.specs.Good.{valueAt, GoodTrail}
+use Rattle.trail.specs.Good.{GoodTrail}
+use Rattle.trail.specs.At.{valueAt}
 use Rattle.vsids.specs.Vsids.{isOpen}
 
 -- the variable that a decide picks is unassigned

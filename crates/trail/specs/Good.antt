@@ -11,24 +11,9 @@ use Rattle.lit.specs.Lits.{index, polarity}
 use Rattle.trail.specs.Trail.{Trail}
 use Rattle.trail.specs.Memory.{Sized}
 
--- the value, level and reason of a variable; the code and the variable at a place of the trail; an opened level
-abbrev pub valueAt : Trail → ℕ → ℕ
-valueAt t v = getD (t .values) v 0
-
-abbrev pub levelAt : Trail → ℕ → ℕ
-levelAt t v = getD (t .levels) v 0
-
-abbrev pub reasonAt : Trail → ℕ → ℕ
-reasonAt t v = getD (t .reasons) v 0
-
-abbrev pub codeAt : Trail → ℕ → ℕ
-codeAt t i = getD (t .trail) i 0
-
+-- the variable at a place of the trail
 abbrev pub varAt : Trail → ℕ → ℕ
-varAt t i = index (codeAt t i)
-
-abbrev pub openedAt : Trail → ℕ → ℕ
-openedAt t k = getD (t .opened) k 0
+varAt t i = index (getD (t .trail) i 0)
 
 -- the number of opened levels not above place i, of the first `level` in the list
 unfoldable pub notAbove : List ℕ → ℕ → ℕ → ℕ
@@ -42,25 +27,25 @@ pub record GoodTrail (n m : ℕ) (t : Trail) : Type 0 where
   -- a place for each variable in every list
   pub lengths : Sized n t
   -- only 0, 1 and 2 are good values
-  pub values-good : (v : ℕ) → v < n → valueAt t v ≤ unassigned
+  pub values-good : (v : ℕ) → v < n → getD (t .values) v 0 ≤ unassigned
   -- a reason is a clause number or NONE, and an unassigned variable has reason NONE
-  pub reasons-good : (v : ℕ) → v < n → IsReason m (reasonAt t v)
-  pub no-reason : (v : ℕ) → v < n → valueAt t v ≡ unassigned → reasonAt t v ≡ NONE
+  pub reasons-good : (v : ℕ) → v < n → IsReason m (getD (t .reasons) v 0)
+  pub no-reason : (v : ℕ) → v < n → getD (t .values) v 0 ≡ unassigned → getD (t .reasons) v 0 ≡ NONE
   -- what is in use lies within the lists; `curr_i` is at most the trail length
   pub len-in : t .len ≤ n
   pub level-in : t .level ≤ n
   pub curr-in : t .curr ≤ t .len
   -- the trail holds literals of variables, the code agreeing with the value
   pub codes-in : (i : ℕ) → i < t .len → varAt t i < n
-  pub agrees : (i : ℕ) → i < t .len → valueAt t (varAt t i) ≡ polarity (codeAt t i)
+  pub agrees : (i : ℕ) → i < t .len → getD (t .values) (varAt t i) 0 ≡ polarity (getD (t .trail) i 0)
   -- it holds each assigned variable, and no variable twice
-  pub held : (v : ℕ) → v < n → valueAt t v ≢ unassigned → (i : ℕ) × ((i < t .len) × (varAt t i ≡ v))
+  pub held : (v : ℕ) → v < n → getD (t .values) v 0 ≢ unassigned → (i : ℕ) × ((i < t .len) × (varAt t i ≡ v))
   pub once : (i j : ℕ) → i < j → j < t .len → varAt t i ≢ varAt t j
   -- opened levels rise strictly and lie below the trail length
-  pub rising : (j k : ℕ) → j < k → k < t .level → openedAt t j < openedAt t k
-  pub below : (k : ℕ) → k < t .level → openedAt t k < t .len
+  pub rising : (j k : ℕ) → j < k → k < t .level → getD (t .opened) j 0 < getD (t .opened) k 0
+  pub below : (k : ℕ) → k < t .level → getD (t .opened) k 0 < t .len
   -- the level of a trail variable is the number of opened levels not above its place
-  pub levels-good : (i : ℕ) → i < t .len → levelAt t (varAt t i) ≡ notAbove (t .opened) (t .level) i
+  pub levels-good : (i : ℕ) → i < t .len → getD (t .levels) (varAt t i) 0 ≡ notAbove (t .opened) (t .level) i
   -- a place that is not in use holds NONE
-  pub trail-unused : (i : ℕ) → t .len ≤ i → i < n → codeAt t i ≡ NONE
-  pub opened-unused : (k : ℕ) → t .level ≤ k → k < n → openedAt t k ≡ NONE
+  pub trail-unused : (i : ℕ) → t .len ≤ i → i < n → getD (t .trail) i 0 ≡ NONE
+  pub opened-unused : (k : ℕ) → t .level ≤ k → k < n → getD (t .opened) k 0 ≡ NONE

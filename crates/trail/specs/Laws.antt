@@ -17,7 +17,8 @@ use Rattle.lit.specs.Numbers.{NONE, unassigned, maxVars}
 use Rattle.lit.specs.Lits.{index, polarity, new, isAssigned}
 use Rattle.trail.specs.Trail.{Trail, freshTrail, enqAssignment, enqDecision}
 use Rattle.trail.specs.Memory.{Room, RoomFor, Levelled}
-use Rattle.trail.specs.Good.{valueAt, varAt, openedAt, notAbove, IsReason, GoodTrail}
+use Rattle.trail.specs.Good.{varAt, notAbove, IsReason, GoodTrail}
+use Rattle.trail.specs.At.{valueAt, openedAt}
 
 pub fresh-good : (n m : ℕ) → GoodTrail n m (freshTrail n)
 unfolding freshTrail

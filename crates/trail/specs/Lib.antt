@@ -2,6 +2,7 @@
 pub mod Trail
 pub mod Memory
 pub mod Good
+pub mod At
 pub mod Laws
 pub mod Undoing
 pub mod Back

@@ -13,7 +13,8 @@ use Rattle.laws.specs.Tests.{cond-elim}
 use Rattle.lit.specs.Numbers.{unassigned}
 use Rattle.lit.specs.Lits.{index, polarity}
 use Rattle.trail.specs.Trail.{Trail, enqAssignment, enqDecision, backtrackTo, backtrackSafe}
-use Rattle.trail.specs.Good.{valueAt, levelAt, reasonAt, codeAt, varAt, openedAt, notAbove, IsReason, GoodTrail}
+use Rattle.trail.specs.Good.{varAt, notAbove, IsReason, GoodTrail}
+use Rattle.trail.specs.At.{valueAt, levelAt, reasonAt, codeAt, openedAt}
 use Rattle.trail.specs.Laws.{on-trail, room-for, level-len, enq-good, dec-good}
 use Rattle.trail.specs.Back.{back-kept, back-to-good}
 

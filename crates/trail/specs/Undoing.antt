@@ -10,7 +10,8 @@ use Rattle.laws.specs.Lists.{set-cases}
 use Rattle.lit.specs.Numbers.{NONE, unassigned}
 use Rattle.lit.specs.Lits.{index, polarity}
 use Rattle.trail.specs.Trail.{Trail, last, backstep, backsteps, closeLevels}
-use Rattle.trail.specs.Good.{reasonAt, codeAt, varAt, openedAt, IsReason, GoodTrail}
+use Rattle.trail.specs.Good.{varAt, IsReason, GoodTrail}
+use Rattle.trail.specs.At.{reasonAt, codeAt, openedAt}
 
 -- The facts of a good trail that do not speak of levels, over the lists that they speak of: `backstep` keeps these.
 pub record Stack (n m : ℕ) (values reasons trail : List ℕ) (len : ℕ) : Type 0 where

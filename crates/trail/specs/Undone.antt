@@ -9,7 +9,8 @@ use lib.Seq.{take-suc, getD-drop, take-set-le, drop-set-add}
 use Rattle.lit.specs.Numbers.{NONE, unassigned}
 use Rattle.lit.specs.Lits.{index}
 use Rattle.trail.specs.Trail.{Trail, last, backstep, backsteps, closeLevels, rewind, howMany, backtrackTo, undone}
-use Rattle.trail.specs.Good.{openedAt, GoodTrail}
+use Rattle.trail.specs.Good.{GoodTrail}
+use Rattle.trail.specs.At.{openedAt}
 
 -- the variables of the places from o up to i, last first: those undone are between the level's opening and the trail's length
 abbrev pub between : List ℕ → ℕ → ℕ → List ℕ

@@ -13,7 +13,8 @@ use Rattle.laws.specs.Some.{count, count-cut}
 use Rattle.lit.specs.Numbers.{unassigned}
 use Rattle.lit.specs.Lits.{index, isAssigned}
 use Rattle.trail.specs.Trail.{Trail, backtrackTo, backtrackSafe}
-use Rattle.trail.specs.Good.{valueAt, levelAt, varAt, openedAt, notAbove, GoodTrail}
+use Rattle.trail.specs.Good.{varAt, notAbove, GoodTrail}
+use Rattle.trail.specs.At.{valueAt, levelAt, openedAt}
 use Rattle.trail.specs.Back.{WentBack, back-kept, back-to-good, went-back}
 
 -- a count is not 0 where the first place passes
