@@ -1,5 +1,5 @@
 -- 'The book of demand 3 is a list of entries.' Here books and logs have the newest first; Letter.antt says that `back`, `codes` and
--- `openings` are document 01's, where the oldest is first.
+-- `openings` are document 01's, where the oldest is first, and that `on` is what it says.
 use Prim.Native.Nat.{ℕ, _+_}
 use mathlib.Core.Bool.{Bool, true, false, cond}
 use mathlib.Core.Option.{Option, none, some}
