@@ -19,17 +19,8 @@ asks call vars stamps order = record { call = call; vars = vars; stamps = stamps
 abbrev pub asked : Asked → Call
 asked a = callOf (a .call) (a .vars)
 
--- DECISIONS 20: a call on the memory of a session that is lent with sizes and a clause list of its own: N, the stated number of clauses, the literals with
--- their stated number, and the ends
-pub record Elsewhere : Type 0 where
-  pub n : ℕ
-  pub m : ℕ
-  pub lits : List ℕ
-  pub literals : ℕ
-  pub ends : List ℕ
-  pub ask : Asked
-
--- how a call of a session comes: with the sizes and the clause list that the session was made with, or with others
+-- How a call of a session comes: lent with the sizes and the clause list that the session was made with; or (DECISIONS 20) with others, and
+-- refused with the status k + 1, whatever k is
 pub data Lent : Type 0 where
   asMade : Asked → Lent
-  otherwise : Elsewhere → Lent
+  otherwise : ℕ → Call → Lent

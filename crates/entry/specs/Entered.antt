@@ -27,7 +27,6 @@ pub record Sound (n m : ℕ) (M : Mode) (lits ends : List ℕ) : Type 1 where
   pub Typed : M .ops .State → Type 0
   pub right : (s : Session n m (M .ops)) → n ≤ maxVars → length ends ≡ m → GoodClauses n lits ends → Sized n (s .trail) → M .lengths (s .chooser) ≡ true
       → Typed (s .chooser) → (M .state (s .trail) (s .chooser) ≡ true) ↔ Good s
-  pub small : (s : Session n m (M .ops)) → Good s → n ≤ maxVars
   pub trail-sized : (s : Session n m (M .ops)) → Good s → Sized n (s .trail)
   pub chooser-sized : (s : Session n m (M .ops)) → Good s → M .lengths (s .chooser) ≡ true
   pub chooser-typed : (s : Session n m (M .ops)) → Good s → Typed (s .chooser)
@@ -59,21 +58,12 @@ module _ (n m : ℕ) (M : Mode) (lits : List ℕ) (literals : ℕ) (ends : List 
   made-fresh = rw (size-accepted n _ _ (done none (fresh n m (M .ops))) (size-zero n _ _ (done none (fresh n m (M .ops))) accepted))
 
 module _ (n m : ℕ) (M : Mode) (lits : List ℕ) (literals : ℕ) (ends : List ℕ) (L : Sound n m M lits ends) where
-  -- the memory that was lent is good: the lengths, the clause list and the session
+  -- the memory that was lent is good: the clause list with its stated counts, a group's scratch, and the session
   pub record GoodMemory (a : Asked) (s : Session n m (M .ops)) : Type 0 where
-    pub sizes : Sizes n m M lits literals ends s
+    pub founded : Founded n m lits ends
+    pub stated : length lits ≡ literals
     pub scratch : RightScratch a
-    pub clauses : GoodClauses n lits ends
     pub session : L .Good s
-
-  -- a good session over a good clause list with the stated counts is good memory
-  pub good-memory : length lits ≡ literals → length ends ≡ m → GoodClauses n lits ends → (a : Asked) → RightScratch a → (s : Session n m (M .ops)) → L .Good s → GoodMemory a s
-  good-memory el em g a z s k = record {
-    sizes = record { trail = L .trail-sized s k; chooser = L .chooser-sized s k; lits-long = el; ends-long = em };
-    scratch = z;
-    clauses = g;
-    session = k;
-  }
 
   module _ (a : Asked) (s : Session n m (M .ops)) where
     abbrev scratch : Bool
@@ -87,24 +77,24 @@ module _ (n m : ℕ) (M : Mode) (lits : List ℕ) (literals : ℕ) (ends : List 
         let l = both _ _ _ _ (z .1) in
         let g = clauses-facts n lits ends .0 (p .0 .clauses-ok) in
         record {
-          sizes = z .0;
+          founded = record { small = p .0 .small; stated = z .0 .ends-long; clauses = g };
+          stated = z .0 .lits-long;
           scratch = record { stamps-long = l .0; order-long = l .1 };
-          clauses = g;
           session = L .right s (p .0 .small) (z .0 .ends-long) g (z .0 .trail) (z .0 .chooser) t .0 (p .1);
         }
 
     -- and good memory has none
     pub unrefused : GoodMemory a s → 0 ≡ stateRefusal n (lengthsOk n m M lits literals ends s scratch) (clausesOk n lits ends) (M .state (s .trail) (s .chooser))
     unrefused g =
-        let z = g .sizes in
-        let b = L .small s (g .session) in
+        let f = g .founded in
+        let z : Sizes n m M lits literals ends s = record { trail = L .trail-sized s (g .session); chooser = L .chooser-sized s (g .session); lits-long = g .stated; ends-long = f .stated } in
         passed-none
         (record {
-          small = b;
+          small = f .small;
           lengths-ok = right-sizes n m M lits literals ends s scratch z (and-both (eq-eqb _ _ (g .scratch .stamps-long)) (eq-eqb _ _ (g .scratch .order-long)));
-          clauses-ok = clauses-facts n lits ends .1 (g .clauses);
+          clauses-ok = clauses-facts n lits ends .1 (f .clauses);
         })
-        (L .right s b (z .ends-long) (g .clauses) (z .trail) (z .chooser) (L .chooser-typed s (g .session)) .1 (g .session))
+        (L .right s (f .small) (f .stated) (f .clauses) (z .trail) (z .chooser) (L .chooser-typed s (g .session)) .1 (g .session))
 
     -- on good memory the checked call is the call
     pub unchecked : GoodMemory a s → entered n m M lits literals ends a s ≡ call n m (M .ops) s (asked a)

@@ -1,11 +1,11 @@
 -- Term 3 on the entry points' own definition, in either mode: runs as in `book`, of calls that are checked first.
-use Prim.Native.Nat.{ℕ}
+use Prim.Native.Nat.{ℕ, suc}
 use mathlib.Core.Path.{_≡_, sym, subst}
-use mathlib.Core.Bool.{Bool, cond}
+use mathlib.Core.Bool.{Bool}
 use mathlib.Core.List.{List, [], _∷_}
-use lib.Dec.{eqb}
+use native.Mathlib.Omega.{arith}
+use borrow.Author.Tests.{ne-eqb}
 use lib.ListN.{length}
-use Rattle.laws.specs.Tests.{cond-elim}
 use Rattle.book.specs.Calls.{Call}
 use Rattle.book.specs.Chooser.{Chooser}
 use Rattle.book.specs.Session.{Result, refuse, status, leaves, Session, call}
@@ -13,21 +13,17 @@ use Rattle.book.specs.Claim.{Run, startingWith, begin, extended, Claim}
 use Rattle.book.specs.Guarded.{Guarded, itself, declined}
 use Rattle.book.proofs.Term3.{Inv, began}
 use Rattle.book.proofs.Guarded.{answered}
-use Rattle.entry.specs.Asked.{Asked, asked, Elsewhere, Lent, asMade, otherwise}
+use Rattle.entry.specs.Asked.{Asked, asked, Lent, asMade, otherwise}
 use Rattle.entry.specs.Checks.{checked-guarded}
 use Rattle.entry.specs.Mode.{Mode, entered, made}
-use Rattle.entry.specs.Entered.{Sound, RightScratch, Founded, made-sizes, made-fresh, good-memory, unchecked}
+use Rattle.entry.specs.Entered.{Sound, RightScratch, Founded, made-sizes, made-fresh, unchecked}
 
--- Over the sizes and the clause list that the session was made with. `elsewhere s o` is the status of o on the memory of s, as o is lent.
-module _ (n m : ℕ) (M : Mode) (lits : List ℕ) (literals : ℕ) (ends : List ℕ) (elsewhere : Session n m (M .ops) → Elsewhere → ℕ) where
-  -- A call that is lent otherwise is refused, and gets the status that the entry point gives it. Were it accepted, the session would be
-  -- another one from there on: the run ends before it.
+-- Over the sizes and the clause list that the session was made with
+module _ (n m : ℕ) (M : Mode) (lits : List ℕ) (literals : ℕ) (ends : List ℕ) where
   unfoldable pub runChecked : Run n m (M .ops) → List Lent → Run n m (M .ops)
   runChecked r [] = r
   runChecked r (asMade a ∷ asks) = runChecked (extended n m (M .ops) r (asked a) (entered n m M lits literals ends a (r .now))) asks
-  runChecked r (otherwise o ∷ asks) =
-      let k = elsewhere (r .now) o in
-      cond (eqb k 0) r (runChecked (extended n m (M .ops) r (asked (o .ask)) (refuse k)) asks)
+  runChecked r (otherwise k c ∷ asks) = runChecked (extended n m (M .ops) r c (refuse (suc k))) asks
 
   guards : (s : Session n m (M .ops)) (a : Asked) → Guarded (call n m (M .ops) s (asked a)) (entered n m M lits literals ends a s)
   unfolding entered
@@ -40,7 +36,7 @@ module _ (n m : ℕ) (M : Mode) (lits : List ℕ) (literals : ℕ) (ends : List 
     unfolding runChecked
     along r [] p = p
     along r (asMade a ∷ asks) p = along _ asks (kept r (asked a) _ (guards (r .now) a) p)
-    along r (otherwise o ∷ asks) p = cond-elim P (eqb (elsewhere (r .now) o) 0) (λ e. p) (λ e. along _ asks (kept r (asked (o .ask)) _ (declined _ e) p))
+    along r (otherwise k c ∷ asks) p = along _ asks (kept r c _ (declined (suc k) (ne-eqb (suc k) 0 (λ e. omega arith))) p)
 
   -- Term 3 of every list of checked calls from a fresh session, whatever is lent with them
   pub checked-term3 : Chooser n m (M .ops) → (asks : List Lent) → Claim n m (M .ops) (runChecked (begin n m (M .ops)) asks)
@@ -68,4 +64,4 @@ module _ (n m : ℕ) (M : Mode) (lits : List ℕ) (literals : ℕ) (ends : List 
     -- so a call lent as the session was made is refused before its own tests only for its scratch
     pub run-unchecked : length lits ≡ literals → (asks : List Lent) (a : Asked) → RightScratch a → let s = (runChecked (begin n m (M .ops)) asks) .now in
         entered n m M lits literals ends a s ≡ call n m (M .ops) s (asked a)
-    run-unchecked el asks a z = unchecked n m M lits literals ends L a _ (good-memory n m M lits literals ends L el (f .stated) (f .clauses) a z _ (run-good asks))
+    run-unchecked el asks a z = unchecked n m M lits literals ends L a _ (record { founded = f; stated = el; scratch = z; session = run-good asks })

@@ -64,7 +64,6 @@ heap-sound n m lits ends = record {
   Good = IsGood n m lits ends;
   Typed = Doubles;
   right = λ s. state-right n m lits ends (s .trail) (s .chooser);
-  small = λ s g. g .small;
   trail-sized = λ s g. g .trail .lengths;
   chooser-sized = λ s g. let h = g .heap in sized-heap n (s .chooser) (record {
     activity-long = h .scores .long;

@@ -8,7 +8,7 @@ use Rattle.choosers.specs.Heap.{heapOps}
 use Rattle.book.specs.Chooser.{Chooser}
 use Rattle.book.specs.Session.{status, leaves, Session, call}
 use Rattle.book.specs.Claim.{startingWith, begin, Claim}
-use Rattle.entry.specs.Asked.{Asked, asked, Elsewhere, Lent}
+use Rattle.entry.specs.Asked.{Asked, asked, Lent}
 use Rattle.entry.specs.Entered as either
 use Rattle.entry.specs.Entered.{RightScratch, Founded}
 use Rattle.entry.specs.Runs as runs
@@ -18,10 +18,6 @@ use Rattle.heap_entry.specs.Kept.{chooser, IsGood}
 use Rattle.heap_entry.specs.Checked.{heap-sound}
 
 module _ (n m : ℕ) (lits : List ℕ) (literals : ℕ) (ends : List ℕ) where
-  -- the status of a call on the session's memory that is lent with other sizes or another clause list
-  abbrev pub elsewhere : Session n m (heapOps n lits ends) → Elsewhere → ℕ
-  elsewhere s o = status (entered (o .n) (o .m) (o .lits) (o .literals) (o .ends) (o .ask) (record { trail = s .trail; chooser = s .chooser }))
-
   chosen : Founded n m lits ends → Chooser n m (heapOps n lits ends)
   chosen f = chooser n m lits ends (f .small) (f .stated) (f .clauses)
 
@@ -33,21 +29,21 @@ module _ (n m : ℕ) (lits : List ℕ) (literals : ℕ) (ends : List ℕ) where
   -- Term 3: over every list of calls from the session that an accepted creation made, refused ones included, whatever is lent with them
   pub made-term3 : (s : Session n m (heapOps n lits ends)) → status (made n m lits literals ends s) ≡ 0 → (asks : List Lent)
       → let r = startingWith n m (heapOps n lits ends) (leaves s (made n m lits literals ends s)) in
-      Claim n m (heapOps n lits ends) (runChecked n m (heapMode n m lits ends) lits literals ends elsewhere r asks)
-  made-term3 = runs.made-term3 n m (heapMode n m lits ends) lits literals ends elsewhere chosen true
+      Claim n m (heapOps n lits ends) (runChecked n m (heapMode n m lits ends) lits literals ends r asks)
+  made-term3 = runs.made-term3 n m (heapMode n m lits ends) lits literals ends chosen true
 
   module _ (founded : Founded n m lits ends) (asks : List Lent) where
     -- and from every fresh session with at most 2,048 variables and a good clause list
-    pub heap-term3 : Claim n m (heapOps n lits ends) (runChecked n m (heapMode n m lits ends) lits literals ends elsewhere (begin n m (heapOps n lits ends)) asks)
-    heap-term3 = runs.checked-term3 n m (heapMode n m lits ends) lits literals ends elsewhere (chosen founded) asks
+    pub heap-term3 : Claim n m (heapOps n lits ends) (runChecked n m (heapMode n m lits ends) lits literals ends (begin n m (heapOps n lits ends)) asks)
+    heap-term3 = runs.checked-term3 n m (heapMode n m lits ends) lits literals ends (chosen founded) asks
 
     -- every session of such a run is good
-    pub run-good : IsGood n m lits ends ((runChecked n m (heapMode n m lits ends) lits literals ends elsewhere (begin n m (heapOps n lits ends)) asks) .now)
+    pub run-good : IsGood n m lits ends ((runChecked n m (heapMode n m lits ends) lits literals ends (begin n m (heapOps n lits ends)) asks) .now)
     unfolding heap-sound
-    run-good = runs.run-good n m (heapMode n m lits ends) lits literals ends elsewhere (heap-sound n m lits ends) founded asks
+    run-good = runs.run-good n m (heapMode n m lits ends) lits literals ends (heap-sound n m lits ends) founded asks
 
     -- so a call lent as the session was made is refused before its own tests only for its scratch
     pub run-unchecked : length lits ≡ literals → (a : Asked) → RightScratch a
-        → let s = (runChecked n m (heapMode n m lits ends) lits literals ends elsewhere (begin n m (heapOps n lits ends)) asks) .now in
+        → let s = (runChecked n m (heapMode n m lits ends) lits literals ends (begin n m (heapOps n lits ends)) asks) .now in
         entered n m lits literals ends a s ≡ call n m (heapOps n lits ends) s (asked a)
-    run-unchecked el a z = runs.run-unchecked n m (heapMode n m lits ends) lits literals ends elsewhere (heap-sound n m lits ends) founded el asks a z
+    run-unchecked el a z = runs.run-unchecked n m (heapMode n m lits ends) lits literals ends (heap-sound n m lits ends) founded el asks a z

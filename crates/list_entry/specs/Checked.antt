@@ -73,7 +73,6 @@ list-sound n m lits ends = record {
   Good = IsGood n m lits;
   Typed = λ l. Unit {0};
   right = λ s small _ _ sized long _. state-right n m (s .trail) (s .chooser) small sized long;
-  small = λ s g. g .small;
   trail-sized = λ s g. g .trail .lengths;
   chooser-sized = λ s g. good-sized g;
   chooser-typed = λ s g. tt;
