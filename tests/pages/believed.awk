@@ -1,13 +1,16 @@
 # Reads what declared.awk tells, then docs/PROMISES.md: each row `| files and names | lines | signatures | what |` of the definitions to believe
-# must have the lines that its declarations have, and a row `all` the sums of the rows above it. Says what differs.
+# must have the lines that its declarations have, a row `all` the sums of the rows above it, and the sentence `In all they are ..` the sums of all tables
+# but the last, of what checks the definitions. Says what differs.
 BEGIN { FS = "\t" }
 NR == FNR { lines[$1, $2] += $3; signature[$1, $2] += $4; names[$1] = names[$1] " " $2; next }
 /^## / { believing = /^## What a reader has to believe/ }
+believing && /^[*][*]/ { counted = !/^[*][*]What checks/ }
+believing && match($0, /In all they are [0-9,]+ lines/) { stated = substr($0, RSTART + 16, RLENGTH - 22); gsub(",", "", stated) }
 !believing || !/^\| .* \| [0-9]+ \| [0-9]+ \| / { if (!/^\|/) sum = sums = 0; next }
 {
     split($0, cell, " [|] ")
     sub(/^[|] /, "", cell[1])
-    if (cell[1] == "all") { n = sum; k = sums }
+    if (cell[1] == "all") { n = sum; k = sums; if (counted) all += n }
     else {
         n = k = 0
         parts = split(cell[1], part, "; ")
@@ -36,4 +39,7 @@ function add(text, file, some, count, name, i, named) {
             k += signature[file, name[i]]
         }
 }
-END { exit wrong }
+END {
+    if (stated != all) { print "docs/PROMISES.md: in all " all " lines, said are " stated; wrong = 1 }
+    exit wrong
+}
