@@ -6,7 +6,7 @@ use mathlib.Core.List.{_++_}
 use native.Mathlib.Omega.{arith}
 use native.Mathlib.Decide.{ℕ-discrete}
 use borrow.Author.Tests.{ltb-true, lt-leb}
-use lib.ListN.{take, replicate}
+use lib.ListN.{getD, take, replicate}
 use lib.Dec.{leb, ltb}
 use Rattle.laws.specs.Tests.{cond-elim}
 use Rattle.laws.specs.Some.{count-cut, count-same}
@@ -22,17 +22,17 @@ use Rattle.trail.specs.Undoing.{StackOf, Kept, stack, clean, kept-clean,
 -- u is what going back to level l leaves of t, over n variables
 pub record WentBack (n l : ℕ) (t u : Trail) : Type 0 where
   -- the first places of the trail, up to where level l was left, and the first l opened levels; then NONE
-  pub len-is : u .len ≡ openedAt t l
+  pub len-is : u .len ≡ getD (t .opened) l 0
   pub level-is : u .level ≡ l
   pub curr-is : u .curr ≡ u .len
-  pub trail-is : u .trail ≡ take (openedAt t l) (t .trail) ++ replicate (n - openedAt t l) NONE
+  pub trail-is : u .trail ≡ take (u .len) (t .trail) ++ replicate (n - u .len) NONE
   pub opened-is : u .opened ≡ take l (t .opened) ++ replicate (n - l) NONE
   pub levels-is : u .levels ≡ t .levels
   -- the variables there keep value and reason; all others are unassigned and have none
-  pub value-kept : (i : ℕ) → i < openedAt t l → valueAt u (varAt t i) ≡ valueAt t (varAt t i)
-  pub reason-kept : (i : ℕ) → i < openedAt t l → reasonAt u (varAt t i) ≡ reasonAt t (varAt t i)
-  pub value-gone : (v : ℕ) → v < n → ((i : ℕ) → i < openedAt t l → varAt t i ≢ v) → valueAt u v ≡ unassigned
-  pub reason-gone : (v : ℕ) → v < n → ((i : ℕ) → i < openedAt t l → varAt t i ≢ v) → reasonAt u v ≡ NONE
+  pub value-kept : (i : ℕ) → i < u .len → getD (u .values) (varAt t i) 0 ≡ getD (t .values) (varAt t i) 0
+  pub reason-kept : (i : ℕ) → i < u .len → getD (u .reasons) (varAt t i) 0 ≡ getD (t .reasons) (varAt t i) 0
+  pub value-gone : (v : ℕ) → v < n → ((i : ℕ) → i < u .len → varAt t i ≢ v) → getD (u .values) v 0 ≡ unassigned
+  pub reason-gone : (v : ℕ) → v < n → ((i : ℕ) → i < u .len → varAt t i ≢ v) → getD (u .reasons) v 0 ≡ NONE
 
 module _ {n m l : ℕ} {t : Trail} (g : GoodTrail n m t) (h : l < t .level) where
   back-stack : StackOf n m (backtrackTo l t)
@@ -123,13 +123,13 @@ module _ {n m l : ℕ} {t : Trail} (g : GoodTrail n m t) (h : l < t .level) wher
         len-is = k .len-is;
         level-is = k .level-is;
         curr-is = back-curr;
-        trail-is = prefix-is n (openedAt t l) (t .trail) (backtrackTo l t .trail) NONE 0 (g .lengths .trail-long) (s .trail-long) (omega (arith, g .below l h, g .len-in)) (k .codes) (λ i b. s .trail-unused i (omega (arith, k .len-is)));
+        trail-is = rw (k .len-is) (prefix-is n (openedAt t l) (t .trail) (backtrackTo l t .trail) NONE 0 (g .lengths .trail-long) (s .trail-long) (omega (arith, g .below l h, g .len-in)) (k .codes) (λ i b. s .trail-unused i (omega (arith, k .len-is))));
         opened-is = prefix-is n l (t .opened) (backtrackTo l t .opened) NONE 0 (g .lengths .opened-long) (k .opened-long) (omega (arith, g .level-in)) (k .opens) (k .opened-unused);
         levels-is = k .levels-is;
-        value-kept = λ i b. rw (k .codes i b) at (s .agrees i (omega (arith, k .len-is))) ∙ sym (g .agrees i (omega (arith, g .below l h)));
-        reason-kept = k .reasons;
-        value-gone = gone;
-        reason-gone = λ v b f. s .no-reason v b (gone v b f);
+        value-kept = λ i b. rw (k .codes i (omega (arith, k .len-is))) at (s .agrees i b) ∙ sym (g .agrees i (omega (arith, k .len-is, g .below l h)));
+        reason-kept = λ i b. k .reasons i (omega (arith, k .len-is));
+        value-gone = λ v b f. gone v b (λ i c. f i (omega (arith, k .len-is)));
+        reason-gone = λ v b f. s .no-reason v b (gone v b (λ i c. f i (omega (arith, k .len-is))));
       }
 
 -- `backtrack_safe` puts nothing on the trail

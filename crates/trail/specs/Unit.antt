@@ -60,7 +60,7 @@ module _ {n m : ℕ} {t : Trail} (g : GoodTrail n m t) where
         let i = back-to-good g o .held v h (λ z. omega (arith, ltb-true (valueAt u v) unassigned a)) in
         let b : i .0 < openedAt t 0 = omega (arith, i .1 .0, w .len-is) in
         let at : varAt t (i .0) ≡ v = sym (ap index (back-kept g o .codes (i .0) b)) ∙ i .1 .1 in
-        let kept : valueAt u v ≡ valueAt t v = rw at at (w .value-kept (i .0) b) in
+        let kept : valueAt u v ≡ valueAt t v = rw at at (w .value-kept (i .0) (i .1 .0)) in
         let low : levelAt t v ≡ 0 = rw at at (level-low (i .0) (omega (arith, g .below 0 o)) (λ _. b)) in
         and-both (lt-ltb (valueAt t v) unassigned (omega (arith, ltb-true (valueAt u v) unassigned a))) (eq-eqb (levelAt t v) 0 low))
         (λ a.
@@ -69,7 +69,7 @@ module _ {n m : ℕ} {t : Trail} (g : GoodTrail n m t) where
         let i = g .held v h (λ z. omega arith) in
         let at = i .1 .1 in
         by-cases (decLt (i .0) (openedAt t 0))
-        (λ b. let kept : valueAt u v ≡ valueAt t v = rw at at (w .value-kept (i .0) b) in lt-ltb (valueAt u v) unassigned (omega arith))
+        (λ b. let kept : valueAt u v ≡ valueAt t v = rw at at (w .value-kept (i .0) (omega (arith, w .len-is))) in lt-ltb (valueAt u v) unassigned (omega arith))
         (λ b. let high : 0 < levelAt t v = rw at at (level-high (i .0) (i .1 .0) o (omega arith)) in absurd (omega arith)))
 
     pub stays-assigned : isAssigned (backtrackSafe 0 t .values) v ≡ isAssigned (t .values) v && eqb (levelAt t v) 0

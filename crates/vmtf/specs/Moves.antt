@@ -1,6 +1,6 @@
 -- A move keeps a good list good, and on the plain order it takes the variable out and puts it first: `move-good`.
 -- Assumes nothing.
-use Prim.Native.Nat.{ℕ, _+_, _-_, _<_, _≤_}
+use Prim.Native.Nat.{ℕ, zero, suc, _+_, _-_, _<_, _≤_}
 use mathlib.Core.Path.{_≡_, refl, sym, ap, _∙_}
 use mathlib.Core.Logic.{_≢_}
 use mathlib.Core.List.{List, [], _∷_}
@@ -8,7 +8,7 @@ use native.Mathlib.Omega.{arith}
 use lib.ListN.{length, getD, set, length-set}
 use lib.Seq.{getD-set-same, getD-set-other}
 use lib.Dec.{eqb, leb}
-use borrow.Author.Tests.{eqb-true, eqb-false}
+use borrow.Author.Tests.{eqb-true, eqb-false, eq-eqb, ne-eqb}
 use Rattle.laws.specs.Tests.{cond-elim}
 use Rattle.laws.specs.Lists.{set-cases}
 use Rattle.lit.specs.Numbers.{NONE}
@@ -129,6 +129,13 @@ module _ (next : List ℕ) (small : length next ≤ NONE) where
       rw (renumber-step next k c ts n (omega arith))
       (renumber-other xs (k - 1) (getD next c 0) w (set ts c k) (rw (h .0) (h .2)) (omega arith) (omega (arith, count-there w x xs d)) ∙ getD-set-other ts c w k 0 (λ z. d (sym (h .0) ∙ sym z)))
 
+  -- the first gets the highest
+  first-stamp : (x : ℕ) (xs : List ℕ) (k c : ℕ) (ts : List ℕ) → Chain next c (x ∷ xs) → length (x ∷ xs) ≤ k → ((w : ℕ) → count w (x ∷ xs) ≤ 1) → ((w : ℕ) → 0 < count w (x ∷ xs) → w < length ts)
+      → getD (renumber next (k - 1) (getD next c 0) (set ts c k)) x 0 ≡ k
+  unfolding Chain
+  first-stamp x xs k c ts h s once within =
+      renumber-other xs (k - 1) (getD next c 0) x (set ts c k) (rw (h .0) (h .2)) (omega arith) (omega (arith, once x, count-here x x xs refl)) ∙ rw (h .0) (getD-set-same ts x k 0 (within x (count-head x xs)))
+
   -- the new stamps fall from the number of variables on
   renumber-falls : (o : List ℕ) (k c : ℕ) (ts : List ℕ) → Chain next c o → length o ≤ k → ((w : ℕ) → count w o ≤ 1) → ((w : ℕ) → 0 < count w o → w < length ts)
       → Falls (renumber next k c ts) (k + 1) o
@@ -137,11 +144,21 @@ module _ (next : List ℕ) (small : length next ≤ NONE) where
   renumber-falls (x ∷ xs) k c ts h s once within =
       let n : c ≢ NONE = λ z. omega (arith, h .0, h .1) in
       let t : List ℕ = set ts c k in
-      let here : getD (renumber next (k - 1) (getD next c 0) t) x 0 ≡ k =
-      renumber-other xs (k - 1) (getD next c 0) x t (rw (h .0) (h .2)) (omega arith) (omega (arith, once x, count-here x x xs refl)) ∙ rw (h .0) (getD-set-same ts x k 0 (within x (count-head x xs))) in
+      let here : getD (renumber next (k - 1) (getD next c 0) t) x 0 ≡ k = first-stamp x xs k c ts h s once within in
       let e : k - 1 + 1 ≡ k = omega arith in
       rw (renumber-step next k c ts n (omega arith), here)
       (omega arith, rw e at (renumber-falls xs (k - 1) (getD next c 0) t (rw (h .0) (h .2)) (omega arith) (λ w. omega (arith, once w, count-more w x xs)) (λ w q. simp length-set (within w (omega (arith, count-more w x xs))))))
+
+  -- each is less by one than the one before it
+  renumber-stamps : (o : List ℕ) (k c : ℕ) (ts : List ℕ) → Chain next c o → length o ≤ k → ((w : ℕ) → count w o ≤ 1) → ((w : ℕ) → 0 < count w o → w < length ts)
+      → (i : ℕ) → i < length o → getD (renumber next k c ts) (getD o i 0) 0 ≡ k - i
+  unfolding Chain
+  renumber-stamps [] k c ts h s once within i b = absurd (omega arith)
+  renumber-stamps (x ∷ xs) k c ts h s once within zero b =
+      rw (renumber-step next k c ts (λ z. omega (arith, h .0, h .1)) (omega arith)) (first-stamp x xs k c ts h s once within ∙ omega arith)
+  renumber-stamps (x ∷ xs) k c ts h s once within (suc i) b =
+      let rest = renumber-stamps xs (k - 1) (getD next c 0) (set ts c k) (rw (h .0) (h .2)) (omega arith) (λ w. omega (arith, once w, count-more w x xs)) (λ w q. simp length-set (within w (omega (arith, count-more w x xs)))) i (omega arith) in
+      rw (renumber-step next k c ts (λ z. omega (arith, h .0, h .1)) (omega arith)) (rest ∙ omega arith)
 
 -- ---- the whole move
 
@@ -154,6 +171,20 @@ rescore-good {n} {order} {l} k t s = record {
   falls = renumber-falls (l .next) (few k) order (length (l .next)) (l .start) (l .ts) (chain k) (omega (arith, order-length k, k .next-long)) (at-most k) (λ w h. omega (arith, k .vars w h, t));
   search-in = s;
 }
+
+-- "`rescore` numbers the list N down to 1 and timestamp is N+1", and nothing else changes
+pub rescore-is : {n : ℕ} {order : List ℕ} {l : Vmtf} → Linked n order l → length (l .ts) ≡ n → let m = rescore l in
+    (m .next ≡ l .next) × (m .prev ≡ l .prev) × (m .start ≡ l .start) × (m .search ≡ l .search) × (m .timestamp ≡ n + 1) × ((i : ℕ) → i < n → getD (m .ts) (getD order i 0) 0 ≡ n - i)
+unfolding rescore
+rescore-is {n} {order} {l} k t = (
+  refl,
+  refl,
+  refl,
+  refl,
+  rw (k .next-long),
+  λ i b. renumber-stamps (l .next) (few k) order (length (l .next)) (l .start) (l .ts) (chain k) (omega (arith, order-length k, k .next-long)) (at-most k) (λ w h. omega (arith, k .vars w h, t)) i (omega (arith, order-length k))
+      ∙ omega (arith, k .next-long),
+)
 
 -- the stamp of the front may be the timestamp itself: after it the timestamp is above every stamp again
 tick-good : {n : ℕ} {order : List ℕ} {l : Vmtf} → Linked n order l → length (l .ts) ≡ n → Falls (l .ts) (l .timestamp + 1) order → (l .search ≢ NONE → l .search < n) → GoodList n order (tick l)
@@ -175,6 +206,26 @@ move-good {n} {order} {l} v h g =
     cond-elim (GoodList n (toFront v order)) (eqb v (l .start))
     (λ e. rw (front-front v order (eqb-true v (l .start) e ∙ k .front) d) g)
     (λ e. tick-good (relink-linked k v h (eqb-false v (l .start) e)) (simp length-set (g .ts-long)) (stamped (l .ts) (l .timestamp) v order (omega (arith, g .ts-long)) (at-most k v) (g .falls)) (g .search-in))
+
+-- ---- its stamps: with the order they are all that a move changes
+
+-- "A variable that is at the front when its turn comes is left without a new stamp"
+pub front-stays : (l : Vmtf) → moveToFront (l .start) l ≡ l
+unfolding moveToFront
+front-stays l = rw (eq-eqb (l .start) (l .start) refl)
+
+-- any other gets the timestamp as its stamp, and the next timestamp is one more
+pub move-stamps : (v : ℕ) (l : Vmtf) → v ≢ l .start → l .timestamp ≢ maxStamp → let m = moveToFront v l in (m .ts ≡ set (l .ts) v (l .timestamp)) × (m .timestamp ≡ l .timestamp + 1)
+unfolding moveToFront relink tick
+move-stamps v l d e = rw (ne-eqb v (l .start) d, ne-eqb (l .timestamp) maxStamp e) (refl, refl)
+
+-- "After a stamp of 18446744073709551615" the list is numbered
+pub move-renumbers : {n : ℕ} {order : List ℕ} {l : Vmtf} (v : ℕ) → v < n → GoodList n order l → v ≢ l .start → l .timestamp ≡ maxStamp → let m = moveToFront v l in
+    (m .timestamp ≡ n + 1) × ((i : ℕ) → i < n → getD (m .ts) (getD (toFront v order) i 0) 0 ≡ n - i)
+unfolding moveToFront relink tick
+move-renumbers {n} {order} {l} v h g d e =
+    let r = rescore-is (relink-linked (g .linked) v h d) (simp length-set (g .ts-long)) in
+    rw (ne-eqb v (l .start) d, eq-eqb (l .timestamp) maxStamp e) (r .4, r .5)
 
 -- ---- a group
 
