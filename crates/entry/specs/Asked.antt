@@ -20,7 +20,7 @@ abbrev pub asked : Asked → Call
 asked a = callOf (a .call) (a .vars)
 
 -- How a call of a session comes: lent with the sizes and the clause list that the session was made with; or (DECISIONS 20) with others, and
--- refused with the status k + 1, whatever k is
+-- refused with a status above 0, of k + 1
 pub data Lent : Type 0 where
   asMade : Asked → Lent
-  otherwise : ℕ → Call → Lent
+  refusedWith : ℕ → Call → Lent

@@ -14,6 +14,7 @@ use Rattle.formula.specs.Clauses.{clausesOk}
 use Rattle.formula.specs.Good.{GoodClauses, clauses-facts}
 use Rattle.trail.specs.Memory.{Sized}
 use Rattle.book.specs.Calls.{Call}
+use Rattle.book.specs.Chooser.{Operations}
 use Rattle.book.specs.Session.{done, status, leaves, Session, fresh, call}
 use Rattle.entry.specs.Asked.{Asked, asked}
 use Rattle.entry.specs.Checks.{stateRefusal, size-passed, state-passed, passed-none, size-accepted, accepted, size-zero, checked-zero}
@@ -44,6 +45,13 @@ pub record Founded (n m : ℕ) (lits ends : List ℕ) : Type 0 where
   pub stated : length ends ≡ m
   pub clauses : GoodClauses n lits ends
 
+-- the memory that was lent is good: the clause list with its stated counts, a group's scratch, and the session
+pub record GoodMemory {n m : ℕ} {O : Operations} (Good : Session n m O → Type 0) (lits : List ℕ) (literals : ℕ) (ends : List ℕ) (a : Asked) (s : Session n m O) : Type 0 where
+  pub founded : Founded n m lits ends
+  pub stated : length lits ≡ literals
+  pub scratch : RightScratch a
+  pub session : Good s
+
 module _ (n m : ℕ) (M : Mode) (lits : List ℕ) (literals : ℕ) (ends : List ℕ) (scratch : Bool) (s : Session n m (M .ops)) (accepted : status (made n m M lits literals ends scratch s) ≡ 0) where
   pub made-sizes : Founded n m lits ends
   unfolding made
@@ -58,19 +66,12 @@ module _ (n m : ℕ) (M : Mode) (lits : List ℕ) (literals : ℕ) (ends : List 
   made-fresh = rw (size-accepted n _ _ (done none (fresh n m (M .ops))) (size-zero n _ _ (done none (fresh n m (M .ops))) accepted))
 
 module _ (n m : ℕ) (M : Mode) (lits : List ℕ) (literals : ℕ) (ends : List ℕ) (L : Sound n m M lits ends) where
-  -- the memory that was lent is good: the clause list with its stated counts, a group's scratch, and the session
-  pub record GoodMemory (a : Asked) (s : Session n m (M .ops)) : Type 0 where
-    pub founded : Founded n m lits ends
-    pub stated : length lits ≡ literals
-    pub scratch : RightScratch a
-    pub session : L .Good s
-
   module _ (a : Asked) (s : Session n m (M .ops)) where
     abbrev scratch : Bool
     scratch = scratchLengths (length (a .vars)) (length (a .stamps)) (length (a .order))
 
     -- memory without a refusal is good
-    pub admitted : L .Typed (s .chooser) → 0 ≡ stateRefusal n (lengthsOk n m M lits literals ends s scratch) (clausesOk n lits ends) (M .state (s .trail) (s .chooser)) → GoodMemory a s
+    pub admitted : L .Typed (s .chooser) → 0 ≡ stateRefusal n (lengthsOk n m M lits literals ends s scratch) (clausesOk n lits ends) (M .state (s .trail) (s .chooser)) → GoodMemory (L .Good) lits literals ends a s
     admitted t e =
         let p = state-passed _ _ _ _ e in
         let z = sizes-right n m M lits literals ends s scratch (p .0 .lengths-ok) in
@@ -84,7 +85,7 @@ module _ (n m : ℕ) (M : Mode) (lits : List ℕ) (literals : ℕ) (ends : List 
         }
 
     -- and good memory has none
-    pub unrefused : GoodMemory a s → 0 ≡ stateRefusal n (lengthsOk n m M lits literals ends s scratch) (clausesOk n lits ends) (M .state (s .trail) (s .chooser))
+    pub unrefused : GoodMemory (L .Good) lits literals ends a s → 0 ≡ stateRefusal n (lengthsOk n m M lits literals ends s scratch) (clausesOk n lits ends) (M .state (s .trail) (s .chooser))
     unrefused g =
         let f = g .founded in
         let z : Sizes n m M lits literals ends s = record { trail = L .trail-sized s (g .session); chooser = L .chooser-sized s (g .session); lits-long = g .stated; ends-long = f .stated } in
@@ -97,12 +98,12 @@ module _ (n m : ℕ) (M : Mode) (lits : List ℕ) (literals : ℕ) (ends : List 
         (L .right s (f .small) (f .stated) (f .clauses) (z .trail) (z .chooser) (L .chooser-typed s (g .session)) .1 (g .session))
 
     -- on good memory the checked call is the call
-    pub unchecked : GoodMemory a s → entered n m M lits literals ends a s ≡ call n m (M .ops) s (asked a)
+    pub unchecked : GoodMemory (L .Good) lits literals ends a s → entered n m M lits literals ends a s ≡ call n m (M .ops) s (asked a)
     unfolding entered
     unchecked g = accepted n _ _ _ _ (unrefused g)
 
     -- what is not refused had good memory
-    pub bad-refused : L .Typed (s .chooser) → status (entered n m M lits literals ends a s) ≡ 0 → GoodMemory a s
+    pub bad-refused : L .Typed (s .chooser) → status (entered n m M lits literals ends a s) ≡ 0 → GoodMemory (L .Good) lits literals ends a s
     unfolding entered
     bad-refused t e = admitted t (checked-zero n _ _ _ _ e)
 

@@ -13,17 +13,18 @@ use Rattle.book.specs.Claim.{Run, startingWith, begin, extended, Claim}
 use Rattle.book.specs.Guarded.{Guarded, itself, declined}
 use Rattle.book.proofs.Term3.{Inv, began}
 use Rattle.book.proofs.Guarded.{answered}
-use Rattle.entry.specs.Asked.{Asked, asked, Lent, asMade, otherwise}
+use Rattle.entry.specs.Asked.{Asked, asked, Lent, asMade, refusedWith}
 use Rattle.entry.specs.Checks.{checked-guarded}
 use Rattle.entry.specs.Mode.{Mode, entered, made}
 use Rattle.entry.specs.Entered.{Sound, RightScratch, Founded, made-sizes, made-fresh, unchecked}
 
--- Over the sizes and the clause list that the session was made with
+-- A run over the sizes and the clause list that the session was made with: a call that was lent otherwise was refused, so that it leaves the
+-- session as it is, and the log has its status.
 module _ (n m : ℕ) (M : Mode) (lits : List ℕ) (literals : ℕ) (ends : List ℕ) where
   unfoldable pub runChecked : Run n m (M .ops) → List Lent → Run n m (M .ops)
   runChecked r [] = r
   runChecked r (asMade a ∷ asks) = runChecked (extended n m (M .ops) r (asked a) (entered n m M lits literals ends a (r .now))) asks
-  runChecked r (otherwise k c ∷ asks) = runChecked (extended n m (M .ops) r c (refuse (suc k))) asks
+  runChecked r (refusedWith k c ∷ asks) = runChecked (extended n m (M .ops) r c (refuse (suc k))) asks
 
   guards : (s : Session n m (M .ops)) (a : Asked) → Guarded (call n m (M .ops) s (asked a)) (entered n m M lits literals ends a s)
   unfolding entered
@@ -36,9 +37,9 @@ module _ (n m : ℕ) (M : Mode) (lits : List ℕ) (literals : ℕ) (ends : List 
     unfolding runChecked
     along r [] p = p
     along r (asMade a ∷ asks) p = along _ asks (kept r (asked a) _ (guards (r .now) a) p)
-    along r (otherwise k c ∷ asks) p = along _ asks (kept r c _ (declined (suc k) (ne-eqb (suc k) 0 (λ e. omega arith))) p)
+    along r (refusedWith k c ∷ asks) p = along _ asks (kept r c _ (declined (suc k) (ne-eqb (suc k) 0 (λ e. omega arith))) p)
 
-  -- Term 3 of every list of checked calls from a fresh session, whatever is lent with them
+  -- Term 3 of every list of such calls from a fresh session
   pub checked-term3 : Chooser n m (M .ops) → (asks : List Lent) → Claim n m (M .ops) (runChecked (begin n m (M .ops)) asks)
   checked-term3 C asks = along (Inv n m (M .ops) C) (λ r c x g i. answered n m (M .ops) C r c g i) (begin n m (M .ops)) asks (began n m (M .ops) C) .claim
 

@@ -7,22 +7,20 @@ use Rattle.choosers.specs.Heap.{heapOps}
 use Rattle.book.specs.Session.{status, leaves, Session, call}
 use Rattle.entry.specs.Asked.{Asked, asked}
 use Rattle.entry.specs.Entered as either
+use Rattle.entry.specs.Entered.{GoodMemory}
 use Rattle.heap_entry.specs.Entry.{heapMode, entered, made}
 use Rattle.heap_entry.specs.Kept.{IsGood}
 use Rattle.heap_entry.specs.Checked.{Doubles, heap-sound}
 
 module _ (n m : ℕ) (lits : List ℕ) (literals : ℕ) (ends : List ℕ) where
-  -- the memory that was lent is good: the lengths, the clause list and the session
-  abbrev pub GoodMemory : Asked → Session n m (heapOps n lits ends) → Type 0
-  GoodMemory = either.GoodMemory n m (heapMode n m lits ends) lits literals ends (heap-sound n m lits ends)
-
   module _ (a : Asked) (s : Session n m (heapOps n lits ends)) where
     -- on good memory the checked call is the call
-    pub unchecked : GoodMemory a s → entered n m lits literals ends a s ≡ call n m (heapOps n lits ends) s (asked a)
+    pub unchecked : GoodMemory (IsGood n m lits ends) lits literals ends a s → entered n m lits literals ends a s ≡ call n m (heapOps n lits ends) s (asked a)
+    unfolding heap-sound
     unchecked = either.unchecked n m (heapMode n m lits ends) lits literals ends (heap-sound n m lits ends) a s
 
     -- what is not refused had good memory
-    pub bad-refused : Doubles (s .chooser) → status (entered n m lits literals ends a s) ≡ 0 → GoodMemory a s
+    pub bad-refused : Doubles (s .chooser) → status (entered n m lits literals ends a s) ≡ 0 → GoodMemory (IsGood n m lits ends) lits literals ends a s
     unfolding heap-sound
     bad-refused = either.bad-refused n m (heapMode n m lits ends) lits literals ends (heap-sound n m lits ends) a s
 

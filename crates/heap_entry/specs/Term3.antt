@@ -26,7 +26,7 @@ module _ (n m : ℕ) (lits : List ℕ) (literals : ℕ) (ends : List ℕ) where
   unfolding begin
   made-begins s = either.made-fresh n m (heapMode n m lits ends) lits literals ends true s
 
-  -- Term 3: over every list of calls from the session that an accepted creation made, refused ones included, whatever is lent with them
+  -- Term 3: over every list of calls from the session that an accepted creation made, each lent as the session was made, or refused
   pub made-term3 : (s : Session n m (heapOps n lits ends)) → status (made n m lits literals ends s) ≡ 0 → (asks : List Lent)
       → let r = startingWith n m (heapOps n lits ends) (leaves s (made n m lits literals ends s)) in
       Claim n m (heapOps n lits ends) (runChecked n m (heapMode n m lits ends) lits literals ends r asks)

@@ -7,22 +7,20 @@ use Rattle.choosers.specs.List.{listOps}
 use Rattle.book.specs.Session.{status, leaves, Session, call}
 use Rattle.entry.specs.Asked.{Asked, asked}
 use Rattle.entry.specs.Entered as either
+use Rattle.entry.specs.Entered.{GoodMemory}
 use Rattle.list_mode.specs.Kept.{IsGood}
 use Rattle.list_entry.specs.Entry.{listMode, entered, made}
 use Rattle.list_entry.specs.Checked.{list-sound}
 
 module _ (n m : ℕ) (lits : List ℕ) (literals : ℕ) (ends : List ℕ) where
-  -- the memory that was lent is good: the lengths, the clause list and the session
-  abbrev pub GoodMemory : Asked → Session n m (listOps n lits) → Type 0
-  GoodMemory = either.GoodMemory n m (listMode n m lits) lits literals ends (list-sound n m lits ends)
-
   module _ (a : Asked) (s : Session n m (listOps n lits)) where
     -- on good memory the checked call is the call
-    pub unchecked : GoodMemory a s → entered n m lits literals ends a s ≡ call n m (listOps n lits) s (asked a)
+    pub unchecked : GoodMemory (IsGood n m lits) lits literals ends a s → entered n m lits literals ends a s ≡ call n m (listOps n lits) s (asked a)
+    unfolding list-sound
     unchecked = either.unchecked n m (listMode n m lits) lits literals ends (list-sound n m lits ends) a s
 
     -- what is not refused had good memory
-    pub bad-refused : status (entered n m lits literals ends a s) ≡ 0 → GoodMemory a s
+    pub bad-refused : status (entered n m lits literals ends a s) ≡ 0 → GoodMemory (IsGood n m lits) lits literals ends a s
     unfolding list-sound
     bad-refused = either.bad-refused n m (listMode n m lits) lits literals ends (list-sound n m lits ends) a s tt
 

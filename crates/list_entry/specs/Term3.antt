@@ -29,7 +29,7 @@ module _ (n m : ℕ) (lits : List ℕ) (literals : ℕ) (ends : List ℕ) where
     unfolding begin
     made-begins = either.made-fresh n m (listMode n m lits) lits literals ends (scratchLengths n (length counts) (length indexes)) s accepted
 
-    -- Term 3: over every list of calls from the session that an accepted creation made, refused ones included, whatever is lent with them
+    -- Term 3: over every list of calls from the session that an accepted creation made, each lent as the session was made, or refused
     pub made-term3 : (asks : List Lent) → let r = startingWith n m (listOps n lits) (leaves s (made n m lits literals ends counts indexes s)) in
         Claim n m (listOps n lits) (runChecked n m (listMode n m lits) lits literals ends r asks)
     made-term3 = runs.made-term3 n m (listMode n m lits) lits literals ends (λ f. chosen (f .small)) (scratchLengths n (length counts) (length indexes)) s accepted
