@@ -1,8 +1,8 @@
--- Term 3 proved: facts of books, the trail's memory by the book, going back, each call, the claim, and the claim of calls behind checks.
+-- Term 3 proved: facts of books, the trail's memory by the book, going back, each call, the claim, and the claim over another clause list.
 pub mod Books
 pub mod Memory
 pub mod Going
 pub mod Steps
 pub mod Term3
 pub mod Letter
-pub mod Guarded
+pub mod OtherList

@@ -22,7 +22,7 @@ use Rattle.book.proofs.Going.{GoodAfter, went}
 use Rattle.book.proofs.Steps.{counts-nil, Kept, Owed, refused, asked, kept}
 
 -- the records of an event are those in the book before it and after it
-abbrev Moment : ℕ → Event → Past → Type 0
+abbrev pub Moment : ℕ → Event → Past → Type 0
 Moment n ev past = (recordsOf (ev .before) ≡ recordsIn n (book (log past))) × (recordsOf (ev .after) ≡ recordsIn n (book (log (ev ∷ past))))
 
 level-told : (n : ℕ) (b : Book) (t : Trail) → recordsOf t ≡ recordsIn n b → t .level ≡ presentLevel b

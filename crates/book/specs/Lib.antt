@@ -7,4 +7,3 @@ pub mod Chooser
 pub mod Session
 pub mod Interleaved
 pub mod Claim
-pub mod Guarded

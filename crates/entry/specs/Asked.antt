@@ -19,8 +19,10 @@ asks call vars stamps order = record { call = call; vars = vars; stamps = stamps
 abbrev pub asked : Asked → Call
 asked a = callOf (a .call) (a .vars)
 
--- How a call of a session comes: lent with the sizes and the clause list that the session was made with; or (DECISIONS 20) with others, and
--- refused with a status above 0, of k + 1
-pub data Lent : Type 0 where
-  asMade : Asked → Lent
-  refusedWith : ℕ → Call → Lent
+-- what a call is lent with beside the memory of a session: N, the clause list, and its stated counts
+pub record Lending : Type 0 where
+  pub n : ℕ
+  pub m : ℕ
+  pub literals : ℕ
+  pub lits : List ℕ
+  pub ends : List ℕ

@@ -10,7 +10,6 @@ use Rattle.lit.specs.Numbers.{NONE, maxVars, manyVars, badLength, badClauses, b
 use Rattle.trail.specs.Trail.{Trail, freshTrail}
 use Rattle.book.specs.Chooser.{Operations}
 use Rattle.book.specs.Session.{Result, done, refuse, status, need, Session, fresh}
-use Rattle.book.specs.Guarded.{Guarded, itself, declined}
 use Rattle.calls.specs.Entry.{sizesChecked, checked, Answered}
 
 -- the first of refusals 4, 5 and 6 that fits, or 0; and with 7
@@ -28,14 +27,6 @@ module _ {S : Type 0} where
   turned : (k : ℕ) (x : Result S) (s : S) → (k ≡ 0 → ⊥) → Answered (unless k x) s k NONE s
   unfolding unless
   turned k x s z = rw (ne-eqb k 0 z) (record { status = refl; reply = refl; session = refl })
-
-  guarded : (k : ℕ) (x : Result S) → Guarded x (unless k x)
-  unfolding unless
-  guarded k x = go (eqb k 0) refl
-    where
-      go : (b : Bool) → eqb k 0 ≡ b → Guarded x (cond b x (refuse k))
-      go true e = itself
-      go false e = declined k e
 
   zero-status : (k : ℕ) (x : Result S) → status (unless k x) ≡ 0 → (k ≡ 0) × (status x ≡ 0)
   unfolding unless
@@ -83,11 +74,7 @@ module _ {S : Type 0} (n : ℕ) (lengths clauses : Bool) where
   pub accepted : (state : Bool) (x : Result S) → 0 ≡ stateRefusal n lengths clauses state → checked n lengths clauses state x ≡ x
   accepted state x e = rw (checked-unless state x, ← e) (unfold unless in refl)
 
-  -- so what is answered is that, or a refusal before it
-  pub checked-guarded : (state : Bool) (x : Result S) → Guarded x (checked n lengths clauses state x)
-  checked-guarded state x = rw (checked-unless state x) (guarded (stateRefusal n lengths clauses state) x)
-
-  -- and status 0 comes only without a refusal
+  -- status 0 comes only without a refusal
   pub size-zero : (x : Result S) → status (sizesChecked n lengths clauses x) ≡ 0 → 0 ≡ sizeRefusal n lengths clauses
   size-zero x e = sym (zero-status _ x (rw (sizes-unless x) at e) .0)
 

@@ -13,6 +13,7 @@ use Rattle.lit.specs.Numbers.{maxVars}
 use Rattle.formula.specs.Clauses.{clausesOk}
 use Rattle.formula.specs.Good.{GoodClauses, clauses-facts}
 use Rattle.trail.specs.Memory.{Sized}
+use Rattle.trail.specs.Good.{GoodTrail}
 use Rattle.book.specs.Calls.{Call}
 use Rattle.book.specs.Chooser.{Operations}
 use Rattle.book.specs.Session.{done, status, leaves, Session, fresh, call}
@@ -28,7 +29,7 @@ pub record Sound (n m : ℕ) (M : Mode) (lits ends : List ℕ) : Type 1 where
   pub Typed : M .ops .State → Type 0
   pub right : (s : Session n m (M .ops)) → n ≤ maxVars → length ends ≡ m → GoodClauses n lits ends → Sized n (s .trail) → M .lengths (s .chooser) ≡ true
       → Typed (s .chooser) → (M .state (s .trail) (s .chooser) ≡ true) ↔ Good s
-  pub trail-sized : (s : Session n m (M .ops)) → Good s → Sized n (s .trail)
+  pub trail : (s : Session n m (M .ops)) → Good s → GoodTrail n m (s .trail)
   pub chooser-sized : (s : Session n m (M .ops)) → Good s → M .lengths (s .chooser) ≡ true
   pub chooser-typed : (s : Session n m (M .ops)) → Good s → Typed (s .chooser)
   pub fresh-good : n ≤ maxVars → length ends ≡ m → GoodClauses n lits ends → Good (fresh n m (M .ops))
@@ -88,7 +89,7 @@ module _ (n m : ℕ) (M : Mode) (lits : List ℕ) (literals : ℕ) (ends : List 
     pub unrefused : GoodMemory (L .Good) lits literals ends a s → 0 ≡ stateRefusal n (lengthsOk n m M lits literals ends s scratch) (clausesOk n lits ends) (M .state (s .trail) (s .chooser))
     unrefused g =
         let f = g .founded in
-        let z : Sizes n m M lits literals ends s = record { trail = L .trail-sized s (g .session); chooser = L .chooser-sized s (g .session); lits-long = g .stated; ends-long = f .stated } in
+        let z : Sizes n m M lits literals ends s = record { trail = L .trail s (g .session) .lengths; chooser = L .chooser-sized s (g .session); lits-long = g .stated; ends-long = f .stated } in
         passed-none
         (record {
           small = f .small;

@@ -64,7 +64,7 @@ heap-sound n m lits ends = record {
   Good = IsGood n m lits ends;
   Typed = Doubles;
   right = λ s. state-right n m lits ends (s .trail) (s .chooser);
-  trail-sized = λ s g. g .trail .lengths;
+  trail = λ s g. g .trail;
   chooser-sized = λ s g. let h = g .heap in sized-heap n (s .chooser) (record {
     activity-long = h .scores .long;
     heap-long = h .inverse .room .heap-long;

@@ -1,49 +1,67 @@
 -- Term 3 in heap mode, on the entry points' own definition.
 use Prim.Native.Nat.{ℕ}
-use mathlib.Core.Path.{_≡_}
-use mathlib.Core.Bool.{true}
+use mathlib.Core.Path.{_≡_, refl, subst}
+use mathlib.Core.Bool.{Bool, true}
 use mathlib.Core.List.{List}
+use native.Mathlib.Omega.{arith}
 use lib.ListN.{length}
-use Rattle.choosers.specs.Heap.{heapOps}
-use Rattle.book.specs.Chooser.{Chooser}
+use Rattle.vsids.specs.Vsids.{Vsids}
+use Rattle.choosers.specs.Heap.{heapOps, HeapOk, heap-ok, ok-heap}
+use Rattle.book.specs.Calls.{Call}
 use Rattle.book.specs.Session.{status, leaves, Session, call}
-use Rattle.book.specs.Claim.{startingWith, begin, Claim}
-use Rattle.entry.specs.Asked.{Asked, asked, Lent}
+use Rattle.book.specs.Claim.{startingWith, begin, run, Claim}
+use Rattle.entry.specs.Asked.{Asked, asked, Lending}
 use Rattle.entry.specs.Entered as either
 use Rattle.entry.specs.Entered.{RightScratch, Founded}
+use Rattle.entry.specs.Mode.{Mode}
 use Rattle.entry.specs.Runs as runs
-use Rattle.entry.specs.Runs.{runChecked}
+use Rattle.entry.specs.Runs.{runLent, FoundedBy, Family}
 use Rattle.heap_entry.specs.Entry.{heapMode, entered, made}
 use Rattle.heap_entry.specs.Kept.{chooser, IsGood}
 use Rattle.heap_entry.specs.Checked.{heap-sound}
 
-module _ (n m : ℕ) (lits : List ℕ) (literals : ℕ) (ends : List ℕ) where
-  chosen : Founded n m lits ends → Chooser n m (heapOps n lits ends)
-  chosen f = chooser n m lits ends (f .small) (f .stated) (f .clauses)
+-- the mode over what is lent
+abbrev pub heapOver : Lending → Mode
+heapOver g = heapMode (g .n) (g .m) (g .lits) (g .ends)
 
+-- the heap is good for the values and switches over whatever is lent
+heap-family : Family heapOver (λ g h c. c)
+unfolding chooser heap-sound
+heap-family = record {
+  self = λ g c. refl;
+  through = λ g h k c. refl;
+  switches = λ g h. refl;
+  sound = λ g. heap-sound (g .n) (g .m) (g .lits) (g .ends);
+  chooser = λ g f. chooser (g .n) (g .m) (g .lits) (g .ends) (f .small) (f .stated) (f .clauses);
+  typed = λ g h f values on c q. let s = ok-heap (g .n) (g .lits) (g .ends) (f .small) (f .clauses) q .good .scores in λ v b. s .doubles v (omega (arith, s .long));
+  carry = λ g h f f′ e values on c q. heap-ok (h .n) (h .lits) (h .ends) (f′ .small) (f′ .clauses) (subst (λ (n : ℕ). HeapOk n values on c) e (ok-heap (g .n) (g .lits) (g .ends) (f .small) (f .clauses) q));
+}
+
+-- Term 3: over every list of calls, refused ones included and whatever each is lent with, from the session that an accepted creation made
+module _ (g : Lending) where
+  pub made-term3 : (s : Session (g .n) (g .m) (heapOps (g .n) (g .lits) (g .ends))) → status (made (g .n) (g .m) (g .lits) (g .literals) (g .ends) s) ≡ 0 → (asks : List (Lending × Asked))
+      → let r = startingWith (g .n) (g .m) (heapOps (g .n) (g .lits) (g .ends)) (leaves s (made (g .n) (g .m) (g .lits) (g .literals) (g .ends) s)) in
+      Claim (g .n) (g .m) (heapOps (g .n) (g .lits) (g .ends)) (runLent heapOver (λ g h c. c) g r asks)
+  made-term3 = runs.made-term3 heapOver (λ g h c. c) heap-family g true
+
+  -- and from every fresh session with at most 2,048 variables and a good clause list
+  pub heap-term3 : FoundedBy g → (asks : List (Lending × Asked))
+      → Claim (g .n) (g .m) (heapOps (g .n) (g .lits) (g .ends)) (runLent heapOver (λ g h c. c) g (begin (g .n) (g .m) (heapOps (g .n) (g .lits) (g .ends))) asks)
+  heap-term3 = runs.lent-term3 heapOver (λ g h c. c) heap-family g
+
+module _ (n m : ℕ) (lits : List ℕ) (literals : ℕ) (ends : List ℕ) where
   -- an accepted creation makes the session that `begin` has
   pub made-begins : (s : Session n m (heapOps n lits ends)) → status (made n m lits literals ends s) ≡ 0 → leaves s (made n m lits literals ends s) ≡ (begin n m (heapOps n lits ends)) .now
   unfolding begin
   made-begins s = either.made-fresh n m (heapMode n m lits ends) lits literals ends true s
 
-  -- Term 3: over every list of calls from the session that an accepted creation made, each lent as the session was made, or refused
-  pub made-term3 : (s : Session n m (heapOps n lits ends)) → status (made n m lits literals ends s) ≡ 0 → (asks : List Lent)
-      → let r = startingWith n m (heapOps n lits ends) (leaves s (made n m lits literals ends s)) in
-      Claim n m (heapOps n lits ends) (runChecked n m (heapMode n m lits ends) lits literals ends r asks)
-  made-term3 = runs.made-term3 n m (heapMode n m lits ends) lits literals ends chosen true
-
-  module _ (founded : Founded n m lits ends) (asks : List Lent) where
-    -- and from every fresh session with at most 2,048 variables and a good clause list
-    pub heap-term3 : Claim n m (heapOps n lits ends) (runChecked n m (heapMode n m lits ends) lits literals ends (begin n m (heapOps n lits ends)) asks)
-    heap-term3 = runs.checked-term3 n m (heapMode n m lits ends) lits literals ends (chosen founded) asks
-
-    -- every session of such a run is good
-    pub run-good : IsGood n m lits ends ((runChecked n m (heapMode n m lits ends) lits literals ends (begin n m (heapOps n lits ends)) asks) .now)
+  module _ (founded : Founded n m lits ends) (calls : List Call) where
+    -- every session of a run is good
+    pub run-good : IsGood n m lits ends ((run n m (heapOps n lits ends) (begin n m (heapOps n lits ends)) calls) .now)
     unfolding heap-sound
-    run-good = runs.run-good n m (heapMode n m lits ends) lits literals ends (heap-sound n m lits ends) founded asks
+    run-good = runs.run-good n m (heapMode n m lits ends) lits literals ends (heap-sound n m lits ends) founded calls
 
-    -- so a call lent as the session was made is refused before its own tests only for its scratch
-    pub run-unchecked : length lits ≡ literals → (a : Asked) → RightScratch a
-        → let s = (runChecked n m (heapMode n m lits ends) lits literals ends (begin n m (heapOps n lits ends)) asks) .now in
+    -- so a call on it, lent as it was made, is refused before its own tests only for its scratch
+    pub run-unchecked : length lits ≡ literals → (a : Asked) → RightScratch a → let s = (run n m (heapOps n lits ends) (begin n m (heapOps n lits ends)) calls) .now in
         entered n m lits literals ends a s ≡ call n m (heapOps n lits ends) s (asked a)
-    run-unchecked el a z = runs.run-unchecked n m (heapMode n m lits ends) lits literals ends (heap-sound n m lits ends) founded el asks a z
+    run-unchecked el a z = runs.run-unchecked n m (heapMode n m lits ends) lits literals ends (heap-sound n m lits ends) founded el calls a z

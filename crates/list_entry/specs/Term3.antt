@@ -1,51 +1,73 @@
 -- Term 3 in list mode, on the entry points' own definition.
 use Prim.Native.Nat.{ℕ, _≤_}
-use mathlib.Core.Path.{_≡_}
+use mathlib.Core.Path.{_≡_, refl, subst}
+use mathlib.Core.Bool.{Bool}
 use mathlib.Core.List.{List}
 use native.Mathlib.Omega.{arith}
 use lib.ListN.{length}
-use Rattle.lit.specs.Numbers.{maxVars}
-use Rattle.choosers.specs.List.{listOps, list-chooser}
-use Rattle.book.specs.Chooser.{Chooser}
+use Rattle.lit.specs.Numbers.{NONE, maxVars}
+use Rattle.vmtf.specs.Vmtf.{Vmtf}
+use Rattle.choosers.specs.List.{listOps, ListOk, list-chooser, list-ok, ok-list}
+use Rattle.book.specs.Calls.{Call}
 use Rattle.book.specs.Session.{status, leaves, Session, call}
-use Rattle.book.specs.Claim.{startingWith, begin, Claim}
-use Rattle.entry.specs.Asked.{Asked, asked, Lent}
+use Rattle.book.specs.Claim.{startingWith, begin, run, Claim}
+use Rattle.entry.specs.Asked.{Asked, asked, Lending}
 use Rattle.entry.specs.Entered as either
 use Rattle.entry.specs.Entered.{RightScratch, Founded}
-use Rattle.entry.specs.Mode.{scratchLengths}
+use Rattle.entry.specs.Mode.{Mode, scratchLengths}
 use Rattle.entry.specs.Runs as runs
-use Rattle.entry.specs.Runs.{runChecked}
+use Rattle.entry.specs.Runs.{runLent, FoundedBy, Family}
 use Rattle.list_mode.specs.Kept.{IsGood}
 use Rattle.list_entry.specs.Entry.{listMode, entered, made}
 use Rattle.list_entry.specs.Checked.{list-sound}
 
+-- the mode over what is lent
+abbrev pub listOver : Lending → Mode
+listOver g = listMode (g .n) (g .m) (g .lits)
+
+few : {n : ℕ} → n ≤ maxVars → n ≤ NONE
+few small = omega arith
+
+-- the list is good over whatever is lent
+list-family : Family listOver (λ g h c. c)
+unfolding list-sound
+list-family = record {
+  self = λ g c. refl;
+  through = λ g h k c. refl;
+  switches = λ g h. refl;
+  sound = λ g. list-sound (g .n) (g .m) (g .lits) (g .ends);
+  chooser = λ g f. list-chooser (g .n) (g .m) (g .lits) (few (f .small));
+  typed = λ g h f values on c q. tt;
+  carry = λ g h f f′ e values on c q. list-ok (h .n) (h .m) (h .lits) (few (f′ .small)) (subst (λ (n : ℕ). ListOk n values on c) e (ok-list (g .n) (g .m) (g .lits) (few (f .small)) q));
+}
+
+-- Term 3: over every list of calls, refused ones included and whatever each is lent with, from the session that an accepted creation made
+module _ (g : Lending) where
+  pub made-term3 : (counts indexes : List ℕ) (s : Session (g .n) (g .m) (listOps (g .n) (g .lits))) → status (made (g .n) (g .m) (g .lits) (g .literals) (g .ends) counts indexes s) ≡ 0
+      → (asks : List (Lending × Asked))
+      → let r = startingWith (g .n) (g .m) (listOps (g .n) (g .lits)) (leaves s (made (g .n) (g .m) (g .lits) (g .literals) (g .ends) counts indexes s)) in
+      Claim (g .n) (g .m) (listOps (g .n) (g .lits)) (runLent listOver (λ g h c. c) g r asks)
+  made-term3 counts indexes = runs.made-term3 listOver (λ g h c. c) list-family g (scratchLengths (g .n) (length counts) (length indexes))
+
+  -- and from every fresh session with at most 2,048 variables and a good clause list
+  pub list-term3 : FoundedBy g → (asks : List (Lending × Asked))
+      → Claim (g .n) (g .m) (listOps (g .n) (g .lits)) (runLent listOver (λ g h c. c) g (begin (g .n) (g .m) (listOps (g .n) (g .lits))) asks)
+  list-term3 = runs.lent-term3 listOver (λ g h c. c) list-family g
+
 module _ (n m : ℕ) (lits : List ℕ) (literals : ℕ) (ends : List ℕ) where
-  chosen : n ≤ maxVars → Chooser n m (listOps n lits)
-  chosen small = list-chooser n m lits (omega arith)
+  -- an accepted creation makes the session that `begin` has
+  pub made-begins : (counts indexes : List ℕ) (s : Session n m (listOps n lits)) → status (made n m lits literals ends counts indexes s) ≡ 0
+      → leaves s (made n m lits literals ends counts indexes s) ≡ (begin n m (listOps n lits)) .now
+  unfolding begin
+  made-begins counts indexes s = either.made-fresh n m (listMode n m lits) lits literals ends (scratchLengths n (length counts) (length indexes)) s
 
-  module _ (counts indexes : List ℕ) (s : Session n m (listOps n lits)) (accepted : status (made n m lits literals ends counts indexes s) ≡ 0) where
-    -- an accepted creation makes the session that `begin` has
-    pub made-begins : leaves s (made n m lits literals ends counts indexes s) ≡ (begin n m (listOps n lits)) .now
-    unfolding begin
-    made-begins = either.made-fresh n m (listMode n m lits) lits literals ends (scratchLengths n (length counts) (length indexes)) s accepted
-
-    -- Term 3: over every list of calls from the session that an accepted creation made, each lent as the session was made, or refused
-    pub made-term3 : (asks : List Lent) → let r = startingWith n m (listOps n lits) (leaves s (made n m lits literals ends counts indexes s)) in
-        Claim n m (listOps n lits) (runChecked n m (listMode n m lits) lits literals ends r asks)
-    made-term3 = runs.made-term3 n m (listMode n m lits) lits literals ends (λ f. chosen (f .small)) (scratchLengths n (length counts) (length indexes)) s accepted
-
-  -- and from every fresh session with at most 2,048 variables
-  pub list-term3 : n ≤ maxVars → (asks : List Lent) → Claim n m (listOps n lits) (runChecked n m (listMode n m lits) lits literals ends (begin n m (listOps n lits)) asks)
-  list-term3 small = runs.checked-term3 n m (listMode n m lits) lits literals ends (chosen small)
-
-  module _ (founded : Founded n m lits ends) (asks : List Lent) where
-    -- every session of such a run is good
-    pub run-good : IsGood n m lits ((runChecked n m (listMode n m lits) lits literals ends (begin n m (listOps n lits)) asks) .now)
+  module _ (founded : Founded n m lits ends) (calls : List Call) where
+    -- every session of a run is good
+    pub run-good : IsGood n m lits ((run n m (listOps n lits) (begin n m (listOps n lits)) calls) .now)
     unfolding list-sound
-    run-good = runs.run-good n m (listMode n m lits) lits literals ends (list-sound n m lits ends) founded asks
+    run-good = runs.run-good n m (listMode n m lits) lits literals ends (list-sound n m lits ends) founded calls
 
-    -- so a call lent as the session was made is refused before its own tests only for its scratch
-    pub run-unchecked : length lits ≡ literals → (a : Asked) → RightScratch a
-        → let s = (runChecked n m (listMode n m lits) lits literals ends (begin n m (listOps n lits)) asks) .now in
+    -- so a call on it, lent as it was made, is refused before its own tests only for its scratch
+    pub run-unchecked : length lits ≡ literals → (a : Asked) → RightScratch a → let s = (run n m (listOps n lits) (begin n m (listOps n lits)) calls) .now in
         entered n m lits literals ends a s ≡ call n m (listOps n lits) s (asked a)
-    run-unchecked el a z = runs.run-unchecked n m (listMode n m lits) lits literals ends (list-sound n m lits ends) founded el asks a z
+    run-unchecked el a z = runs.run-unchecked n m (listMode n m lits) lits literals ends (list-sound n m lits ends) founded el calls a z
