@@ -1,5 +1,5 @@
 -- Term 3: the calls, the book that is kept of them and its letter, a chooser as operations and laws, a session's step and its going back,
--- the claim, and calls behind checks.
+-- and the claim.
 pub mod Calls
 pub mod Book
 pub mod Letter
