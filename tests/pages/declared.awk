@@ -13,8 +13,8 @@ FNR == 1 { tell(); file = FILENAME; sub(/^crates\//, "", file); inside = -1 }
 }
 inside >= 0 && indent > inside { lines++; next }
 { inside = -1 }
-text ~ /^module _/ { tell(); name = "module"; lines = signature = 1; next }
-text ~ /^(pub )?(data|record) / {
+text ~ /^module _/ { tell(); name = "module"; lines = signature = open = 1; next }
+text ~ /^(pub )?(data|record) [A-Z]/ {
     tell()
     sub(/^pub /, "", text)
     split(text, word, " ")
@@ -28,7 +28,7 @@ text ~ /^(pub )?(data|record) / {
     while (sub(/^(unfoldable|abbrev|pub) /, "", plain)) {}
     split(plain, word, " ")
     rest = substr(plain, length(word[1]) + 1)
-    if (rest ~ /^( \{[^}]*\})? :/) {
+    if (word[1] !~ /^[({]/ && rest ~ /^( \{[^}]*\})? :/) {
         tell()
         name = word[1]
         lines = signature = 1
