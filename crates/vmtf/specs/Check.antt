@@ -16,13 +16,13 @@ use Rattle.vmtf.specs.Order.{count, count-there, count-more, count-head,
 use Rattle.vmtf.specs.Good.{Row, Falls, GoodList, InOrder, falls-once, length-once, order-length}
 
 -- what the walk of the check shows: an order of k variables from c on, which come after p with stamps below b
-pub record Walked (l : Vmtf) (k p b c : ℕ) : Type 0 where
-  pub order : List ℕ
-  pub long : length order ≡ k
-  pub start : c ≡ first order
-  pub vars : (v : ℕ) → 0 < count v order → v < length (l .next)
-  pub row : Row (l .next) (l .prev) p order
-  pub falls : Falls (l .ts) b order
+record Walked (l : Vmtf) (k p b c : ℕ) : Type 0 where
+  order : List ℕ
+  long : length order ≡ k
+  start : c ≡ first order
+  vars : (v : ℕ) → 0 < count v order → v < length (l .next)
+  row : Row (l .next) (l .prev) p order
+  falls : Falls (l .ts) b order
 
 module _ (l : Vmtf) where
   checked : (k p b c : ℕ) → checkRow l k p b c ≡ true → Walked l k p b c

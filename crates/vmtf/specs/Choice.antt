@@ -25,15 +25,15 @@ NextIs n order values l Nothing = (v : ℕ) → v < n → isAssigned values v �
 NextIs n order values l Stuck = ¬ ((v : ℕ) → v < n → isAssigned values v ≡ true)
 
 -- open is unassigned
-pub open-unassigned : (values : List ℕ) (v : ℕ) → isOpen values v ≡ true → isAssigned values v ≡ false
+open-unassigned : (values : List ℕ) (v : ℕ) → isOpen values v ≡ true → isAssigned values v ≡ false
 unfolding isOpen
 open-unassigned values v e = le-ltb (getD values v 0) unassigned (leb-true unassigned (getD values v 0) e)
 
-pub shut-assigned : (values : List ℕ) (v : ℕ) → isOpen values v ≡ false → isAssigned values v ≡ true
+shut-assigned : (values : List ℕ) (v : ℕ) → isOpen values v ≡ false → isAssigned values v ≡ true
 unfolding isOpen
 shut-assigned values v e = lt-ltb (getD values v 0) unassigned (leb-false unassigned (getD values v 0) e)
 
-pub assigned-shut : (values : List ℕ) (v : ℕ) → isAssigned values v ≡ true → isOpen values v ≡ false
+assigned-shut : (values : List ℕ) (v : ℕ) → isAssigned values v ≡ true → isOpen values v ≡ false
 unfolding isOpen
 assigned-shut values v e = lt-leb unassigned (getD values v 0) (ltb-true (getD values v 0) unassigned e)
 

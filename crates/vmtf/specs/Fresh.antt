@@ -11,7 +11,7 @@ use lib.Seq.{getD-set-same, getD-set-other}
 use Rattle.laws.specs.InPlace.{length-upTo, getD-upTo}
 use Rattle.lit.specs.Numbers.{NONE}
 use Rattle.util.specs.Pairs.{same-sym, stood}
-use Rattle.vmtf.specs.Vmtf.{Vmtf, litOrder, first, linked, linkFrom, makeLinkedList, new}
+use Rattle.vmtf.specs.Vmtf.{Vmtf, litOrder, first, linked, linkFrom, unlinked, makeLinkedList, new}
 use Rattle.vmtf.specs.Laws.{length-count, lit-pairs, lit-ordering}
 use Rattle.vmtf.specs.Order.{count, count-here, count-more, count-head, first-in, at-every, every-at}
 use Rattle.vmtf.specs.Good.{Row, Falls, GoodList, every-once}
@@ -19,13 +19,13 @@ use Rattle.vmtf.specs.Good.{Row, Falls, GoodList, every-once}
 -- ---- linking
 
 -- the numbers, and the lengths, stay
-pub record Same (l m : Vmtf) : Type 0 where
-  pub next-long : length (m .next) ≡ length (l .next)
-  pub prev-long : length (m .prev) ≡ length (l .prev)
-  pub ts-long : length (m .ts) ≡ length (l .ts)
-  pub start : m .start ≡ l .start
-  pub search : m .search ≡ l .search
-  pub timestamp : m .timestamp ≡ l .timestamp
+record Same (l m : Vmtf) : Type 0 where
+  next-long : length (m .next) ≡ length (l .next)
+  prev-long : length (m .prev) ≡ length (l .prev)
+  ts-long : length (m .ts) ≡ length (l .ts)
+  start : m .start ≡ l .start
+  search : m .search ≡ l .search
+  timestamp : m .timestamp ≡ l .timestamp
 
 link-same : (p : ℕ) (vs : List ℕ) (l : Vmtf) → Same l (linkFrom p vs l)
 unfolding linkFrom
@@ -42,10 +42,10 @@ link-same p (v ∷ vs) l =
     }
 
 -- what is not in the order stays
-pub record Kept (w : ℕ) (l m : Vmtf) : Type 0 where
-  pub next : getD (m .next) w 0 ≡ getD (l .next) w 0
-  pub prev : getD (m .prev) w 0 ≡ getD (l .prev) w 0
-  pub ts : getD (m .ts) w 0 ≡ getD (l .ts) w 0
+record Kept (w : ℕ) (l m : Vmtf) : Type 0 where
+  next : getD (m .next) w 0 ≡ getD (l .next) w 0
+  prev : getD (m .prev) w 0 ≡ getD (l .prev) w 0
+  ts : getD (m .ts) w 0 ≡ getD (l .ts) w 0
 
 link-kept : (p : ℕ) (vs : List ℕ) (l : Vmtf) (w : ℕ) → count w vs ≡ 0 → Kept w l (linkFrom p vs l)
 unfolding linkFrom
@@ -86,24 +86,17 @@ link-stamps p (v ∷ vs) l once h (suc i) b =
     ∙ omega arith
 
 module _ (n : ℕ) (order : List ℕ) (small : n ≤ NONE) (long : length order ≡ n) (vars : (v : ℕ) → 0 < count v order → v < n) (once : (v : ℕ) → v < n → count v order ≡ 1) where
-  abbrev blank : Vmtf
-  blank = record {
-    next = replicate (length order) NONE;
-    prev = replicate (length order) NONE;
-    ts = replicate (length order) 0;
-    start = first order;
-    search = first order;
-    timestamp = length order + 1;
-  }
+  abbrev bare : Vmtf
+  bare = unlinked (length order) (first order)
 
   most : (w : ℕ) → count w order ≤ 1
   most w = by-cases (decLt 0 (count w order)) (λ h. omega (arith, once w (vars w h))) (λ h. omega arith)
 
-  pub make-good : GoodList n order (makeLinkedList order)
+  make-good : GoodList n order (makeLinkedList order)
   unfolding makeLinkedList
   make-good =
-      let s = link-same NONE order blank in
-      let r = link-row NONE order blank most (λ w h.
+      let s = link-same NONE order bare in
+      let r = link-row NONE order bare most (λ w h.
       let b : w < length order = omega (arith, vars w h) in
       (simp length-replicate b, simp length-replicate b, simp length-replicate b)) in
       record {
@@ -121,11 +114,11 @@ module _ (n : ℕ) (order : List ℕ) (small : n ≤ NONE) (long : length order 
         search-in = λ d. rw (s .search) (vars (first order) (first-in order (λ e. d (s .search ∙ e))));
       }
 
-  pub make-is : let l = makeLinkedList order in (l .search ≡ l .start) × (l .timestamp ≡ n + 1) × ((i : ℕ) → i < n → getD (l .ts) (getD order i 0) 0 ≡ n - i)
+  make-is : let l = makeLinkedList order in (l .search ≡ l .start) × (l .timestamp ≡ n + 1) × ((i : ℕ) → i < n → getD (l .ts) (getD order i 0) 0 ≡ n - i)
   unfolding makeLinkedList
   make-is =
-      let s = link-same NONE order blank in
-      (s .search ∙ sym (s .start), rw (s .timestamp, long), λ i b. link-stamps NONE order blank most (λ w h. simp length-replicate (omega (arith, vars w h))) i (omega arith) ∙ omega arith)
+      let s = link-same NONE order bare in
+      (s .search ∙ sym (s .start), rw (s .timestamp, long), λ i b. link-stamps NONE order bare most (λ w h. simp length-replicate (omega (arith, vars w h))) i (omega arith) ∙ omega arith)
 
 -- ---- the order of the counts
 

@@ -108,7 +108,7 @@ total-exact (suc n) o h k v b =
     (λ d. total-exact n o below (omega (arith, h n (omega arith))) v (omega arith))
 
 -- an order in which each of n variables stands once, and nothing else, has n places
-pub once-length : (n : ℕ) (o : List ℕ) → ((v : ℕ) → 0 < count v o → v < n) → ((v : ℕ) → v < n → count v o ≡ 1) → length o ≡ n
+once-length : (n : ℕ) (o : List ℕ) → ((v : ℕ) → 0 < count v o → v < n) → ((v : ℕ) → v < n → count v o ≡ 1) → length o ≡ n
 once-length n o vars once = sym (total-length n o vars) ∙ total-once n o once
 
 -- an order of n places in which only variables stand, none twice, has each of them
@@ -123,7 +123,7 @@ every-once n o vars every long = total-exact n o every (omega (arith, total-leng
 
 module _ (next prev : List ℕ) where
   -- along a row each variable's links are the ones beside it
-  pub row-beside : (p : ℕ) (o : List ℕ) → Row next prev p o → (w : ℕ) → 0 < count w o → (getD next w 0 ≡ after w o) × (getD prev w 0 ≡ before p w o)
+  row-beside : (p : ℕ) (o : List ℕ) → Row next prev p o → (w : ℕ) → 0 < count w o → (getD next w 0 ≡ after w o) × (getD prev w 0 ≡ before p w o)
   unfolding Row
   row-beside p [] r w h = absurd (omega (arith, count-nil w))
   row-beside p (x ∷ xs) r w h =
@@ -148,7 +148,7 @@ module _ (next prev : List ℕ) where
       )
 
   -- a row is a walk that ends
-  pub row-chain : (p : ℕ) (o : List ℕ) → Row next prev p o → ((w : ℕ) → 0 < count w o → w < length next) → Chain next (first o) o
+  row-chain : (p : ℕ) (o : List ℕ) → Row next prev p o → ((w : ℕ) → 0 < count w o → w < length next) → Chain next (first o) o
   unfolding Row Chain
   row-chain p [] r h = refl
   row-chain p (x ∷ xs) r h = (refl, h x (count-head x xs), rw (r .1) (row-chain x xs (r .2) (λ w k. h w (omega (arith, count-more w x xs)))))

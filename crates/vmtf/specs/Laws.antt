@@ -180,7 +180,7 @@ module _ {next : List ℕ} {curr : ℕ} where
           rw (a, b, c .0)
 
 -- what the walk finds is a variable, and open
-pub chain-found : (next values vs : List ℕ) (curr : ℕ) → Chain next curr vs → firstOpen values vs ≢ NONE
+chain-found : (next values vs : List ℕ) (curr : ℕ) → Chain next curr vs → firstOpen values vs ≢ NONE
     → (firstOpen values vs < length next) × (isOpen values (firstOpen values vs) ≡ true)
 unfolding Chain firstOpen
 chain-found next values [] curr c ne = absurd (ne refl)
@@ -192,7 +192,7 @@ chain-found next values (v ∷ vs) curr c ne = go (isOpen values v) refl (chain-
     go false e f ne = f ne
 
 module _ {next : List ℕ} {curr : ℕ} (e : Ends next curr) where
-  pub ends-from : from next (length next) curr ≡ e .rest
+  ends-from : from next (length next) curr ≡ e .rest
   ends-from = chain-from next (e .rest) (length next) curr (e .small) (e .chain) (e .short)
 
   pub found : (values : List ℕ) (v : ℕ) → v ≡ firstOpen values (from next (length next) curr) → v ≢ NONE → (v < length next) × (isOpen values v ≡ true)
@@ -256,7 +256,7 @@ moves-end vs i l h = rw (drop-of-length-le vs h)
 
 module _ {n v : ℕ} {l : Vmtf} (s : Safe n l) (v-in : v < n) where
   -- the front, and the variable before v where v is not the front
-  pub front-in : l .start < n
+  front-in : l .start < n
   front-in = s .front (omega arith)
 
   pub relink-safe : v ≢ l .start → Safe n (relink v l)
@@ -287,7 +287,7 @@ module _ {n v : ℕ} {l : Vmtf} (s : Safe n l) (v-in : v < n) where
         front = λ _. v-in;
       }
 
-pub tick-safe : {n : ℕ} {l : Vmtf} → Safe n l → Safe n (tick l)
+tick-safe : {n : ℕ} {l : Vmtf} → Safe n l → Safe n (tick l)
 unfolding tick rescore
 tick-safe {n} {l} s =
     cond-elim (λ (m : Vmtf). Safe n m) (eqb (l .timestamp) maxStamp)

@@ -85,7 +85,7 @@ module _ {n : ℕ} {order : List ℕ} {l : Vmtf} (k : Linked n order l) (v : ℕ
           before-there Q v (remove v order) NONE (λ z. Q-not (sym z)) ∙ before-other v NONE Q (remove v order) (λ z. some v-in (sym b ∙ before-first NONE Q order (z ∙ first-rest) d))
           ∙ before-cut v Q (some v-in) d Q-not NONE order (λ z. some v-in (sym z)) (at-most k v) b
 
-  pub relink-linked : Linked n (toFront v order) (relink v l)
+  relink-linked : Linked n (toFront v order) (relink v l)
   unfolding relink
   relink-linked = record {
     small = k .small;
@@ -102,7 +102,7 @@ module _ {n : ℕ} {order : List ℕ} {l : Vmtf} (k : Linked n order l) (v : ℕ
 
 -- ---- stamps
 
-pub falls-remove : (ts : List ℕ) (b v : ℕ) (o : List ℕ) → Falls ts b o → Falls ts b (remove v o)
+falls-remove : (ts : List ℕ) (b v : ℕ) (o : List ℕ) → Falls ts b o → Falls ts b (remove v o)
 unfolding Falls remove
 falls-remove ts b v [] f = tt
 falls-remove ts b v (x ∷ xs) f =
@@ -229,7 +229,7 @@ move-renumbers {n} {order} {l} v h g d e =
 
 -- ---- a group
 
-pub moves-good : {n : ℕ} (vs : List ℕ) {order : List ℕ} {l : Vmtf} → ((v : ℕ) → 0 < count v vs → v < n) → GoodList n order l → GoodList n (allToFront vs order) (moveAll vs l)
+moves-good : {n : ℕ} (vs : List ℕ) {order : List ℕ} {l : Vmtf} → ((v : ℕ) → 0 < count v vs → v < n) → GoodList n order l → GoodList n (allToFront vs order) (moveAll vs l)
 unfolding moveAll allToFront
 moves-good [] h g = g
 moves-good (v ∷ vs) h g = moves-good vs (λ w k. h w (omega (arith, count-more w v vs))) (move-good v (h v (count-head v vs)) g)

@@ -53,11 +53,11 @@ module _ (v x : ℕ) (xs : List ℕ) where
   unfolding count
   count-there n = rw (ne-eqb x v n)
 
-  pub remove-here : x ≡ v → remove v (x ∷ xs) ≡ xs
+  remove-here : x ≡ v → remove v (x ∷ xs) ≡ xs
   unfolding remove
   remove-here e = rw (eq-eqb x v e)
 
-  pub remove-there : x ≢ v → remove v (x ∷ xs) ≡ x ∷ remove v xs
+  remove-there : x ≢ v → remove v (x ∷ xs) ≡ x ∷ remove v xs
   unfolding remove
   remove-there n = rw (ne-eqb x v n)
 
@@ -121,7 +121,7 @@ remove-count-same v (x ∷ xs) =
     (λ e. rw (eq-eqb x v e) (omega arith))
     (λ n. rw (ne-eqb x v n) (count-there v x (remove v xs) n ∙ remove-count-same v xs))
 
-pub remove-count-other : (v w : ℕ) (o : List ℕ) → w ≢ v → count w (remove v o) ≡ count w o
+remove-count-other : (v w : ℕ) (o : List ℕ) → w ≢ v → count w (remove v o) ≡ count w o
 unfolding remove
 remove-count-other v w [] d = refl
 remove-count-other v w (x ∷ xs) d =
@@ -168,7 +168,7 @@ after-in v (x ∷ xs) d = cond-elim (λ (a : ℕ). a ≢ NONE → 0 < count a (x
     (λ _ d. omega (arith, after-in v xs d, count-more (after v xs) x xs)) d
 
 -- the one before is p, NONE or in the order
-pub before-in : (p v : ℕ) (o : List ℕ) → before p v o ≢ p → before p v o ≢ NONE → 0 < count (before p v o) o
+before-in : (p v : ℕ) (o : List ℕ) → before p v o ≢ p → before p v o ≢ NONE → 0 < count (before p v o) o
 unfolding before
 before-in p v [] a b = absurd (b refl)
 before-in p v (x ∷ xs) a b = cond-elim (λ (u : ℕ). u ≢ p → u ≢ NONE → 0 < count u (x ∷ xs)) (eqb x v)

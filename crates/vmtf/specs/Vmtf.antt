@@ -63,7 +63,7 @@ linkFrom p [] l = l
 linkFrom p (v ∷ vs) l = linkFrom v vs (linked p v (first vs) (length (v ∷ vs)) l)
 
 -- `make_linked_list`, from nodes as `Default` makes them
-abbrev unlinked : ℕ → ℕ → Vmtf
+abbrev pub unlinked : ℕ → ℕ → Vmtf
 unlinked n front = record { next = replicate n NONE; prev = replicate n NONE; ts = replicate n 0; start = front; search = front; timestamp = n + 1 }
 
 unfoldable pub makeLinkedList : List ℕ → Vmtf
