@@ -2,17 +2,16 @@
 use Prim.Native.Nat.{ℕ, _+_, _≤_, _<_}
 use mathlib.Core.Path.{_≡_, refl, sym, ap, _∙_}
 use mathlib.Core.Logic.{by-cases}
-use mathlib.Core.Bool.{Bool, true, false, cond, not}
+use mathlib.Core.Bool.{Bool, true, false, cond}
 use mathlib.Core.Option.{Option, none, some}
 use mathlib.Core.List.{List}
 use native.Mathlib.Decide.{ℕ-discrete}
 use native.Mathlib.Omega.{arith}
-use borrow.Author.Tests.{ltb-true, eqb-true, eqb-false, leb-true, leb-false, lt-ltb, le-ltb, eq-eqb, ne-eqb}
-use lib.Dec.{ltb, leb, eqb}
-use lib.ListN.{length, getD, set, drop, replicate, getD-replicate, length-drop}
+use borrow.Author.Tests.{ltb-true, leb-true, leb-false, lt-ltb, le-ltb, eq-eqb, ne-eqb}
+use lib.Dec.{eqb}
+use lib.ListN.{length, getD, set, drop, getD-replicate, length-drop}
 use lib.Seq.{getD-set-same, getD-set-other, getD-drop}
-use Rattle.laws.specs.Tests.{and-left, and-right, not-true, true-or-false}
-use Rattle.laws.specs.Choices.{or-cases}
+use Rattle.laws.specs.Tests.{and-left, and-right, true-or-false}
 use Rattle.lit.specs.Numbers.{NONE, maxVars, unassigned}
 use Rattle.lit.specs.Lits.{index, isAssigned}
 use Rattle.formula.specs.Clauses.{clause}
@@ -25,7 +24,7 @@ use Rattle.vsids.specs.Good.{GoodHeap, Right}
 use Rattle.vsids.specs.Kept as kept
 use Rattle.vsids.specs.Choice.{get-next-right}
 use Rattle.book.specs.Book.{without}
-use Rattle.book.specs.Chooser.{Tune, bumpVariable, decayVarInc, setVarDecay, bumpReasonLiterals, bumpVecOfVars, goodReason, fits, Next, chose, nothing, stuck, NextRight, IfSome, Operations, Chooser}
+use Rattle.book.specs.Chooser.{Tune, bumpVariable, decayVarInc, setVarDecay, bumpReasonLiterals, bumpVecOfVars, fits, Next, chose, nothing, NextRight, IfSome, Operations, Chooser}
 
 -- 13 where the decayed step would be above 1e200; a reason NONE bumps nothing
 abbrev pub tune : List ℕ → List ℕ → Tune → Vsids → Option Vsids

@@ -1,17 +1,16 @@
 -- The list chooser, as the book sees it: the operations of `VMTF`, and that they keep the laws. Only a group moves the list; switching,
 -- bumping, decaying and inserting change nothing.
-use Prim.Native.Nat.{ℕ, zero, suc, _≤_, _<_}
-use mathlib.Core.Path.{_≡_, refl, sym, _∙_}
-use mathlib.Core.Bool.{Bool, true, false, _&&_}
+use Prim.Native.Nat.{ℕ, zero, suc, _≤_}
+use mathlib.Core.Path.{_≡_, refl}
+use mathlib.Core.Bool.{Bool, true, false}
 use mathlib.Core.Option.{Option, some}
 use mathlib.Core.List.{List, [], _∷_}
 use native.Mathlib.Omega.{arith}
 use borrow.Author.Tests.{ltb-true}
 use lib.Dec.{ltb}
-use lib.ListN.{length, set, length-set, length-replicate}
+use lib.ListN.{length, length-set, length-replicate}
 use Rattle.laws.specs.Tests.{and-left, and-right}
 use Rattle.lit.specs.Numbers.{NONE, unassigned}
-use Rattle.lit.specs.Lits.{isAssigned}
 use Rattle.vmtf.specs.declared.Next.the-variants as found
 use Rattle.vmtf.specs.declared.Next as code
 use Rattle.vmtf.specs.Vmtf.{Vmtf, vmtfOf, litOrder, Vars}
@@ -20,7 +19,7 @@ use Rattle.vmtf.specs.Good.{GoodList}
 use Rattle.vmtf.specs.Moves.{group-good}
 use Rattle.vmtf.specs.Fresh.{new-good}
 use Rattle.vmtf.specs.Choice.{NextIs, next-right}
-use Rattle.book.specs.Chooser.{Tune, bumpVariable, decayVarInc, setVarDecay, bumpReasonLiterals, bumpVecOfVars, below, fits, Next, chose, nothing, stuck, Settled, NextRight, IfSome, Operations, Chooser}
+use Rattle.book.specs.Chooser.{Tune, bumpVariable, decayVarInc, setVarDecay, bumpReasonLiterals, bumpVecOfVars, below, fits, Next, chose, nothing, stuck, NextRight, IfSome, Operations, Chooser}
 
 abbrev pub tune : Tune → Vmtf → Option Vmtf
 tune (bumpVariable v) l = some l
