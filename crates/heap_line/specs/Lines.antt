@@ -10,8 +10,8 @@ use Rattle.heap_entry.specs.Kept.{IsGood, kept}
 use Rattle.forms.specs.Forms.{callIn}
 use Rattle.sheet.specs.declared.Place.{Place}
 use Rattle.sheet.specs.Sheet.{answerLine}
-use Rattle.sheet.specs.Stages.{called, inHeap, replyOf}
-use Rattle.sheet.specs.Writing.{Wrote}
+use Rattle.sheet.specs.Stages.{called, inHeap}
+use Rattle.sheet.specs.Writing.{Wrote, replyOf}
 use Rattle.sheet.specs.Replies.{heap-reply}
 use Rattle.sheet.specs.Running.{lineLength, lineFrom, after, Room}
 use Rattle.sheet.specs.SessionLines.{Along, Mode, called-kept, along-one}

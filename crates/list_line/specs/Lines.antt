@@ -11,8 +11,8 @@ use Rattle.list_entry.specs.Checked.{kept}
 use Rattle.forms.specs.Forms.{callIn}
 use Rattle.sheet.specs.declared.Place.{Place}
 use Rattle.sheet.specs.Sheet.{answerLine}
-use Rattle.sheet.specs.Stages.{called, inList, replyOf}
-use Rattle.sheet.specs.Writing.{Wrote}
+use Rattle.sheet.specs.Stages.{called, inList}
+use Rattle.sheet.specs.Writing.{Wrote, replyOf}
 use Rattle.sheet.specs.Replies.{list-reply}
 use Rattle.sheet.specs.Running.{lineLength, lineFrom, after, Room}
 use Rattle.sheet.specs.SessionLines.{Along, Mode, called-kept, along-one}

@@ -9,7 +9,6 @@ use borrow.Author.Tests.{ne-eqb}
 use lib.Dec.{leb}
 use lib.ListN.{length, length-append}
 use Rattle.lit.specs.Numbers.{NONE, maxVars, maxSheet, answerRoom}
-use Rattle.formula.specs.Clauses.{clauseFits}
 use Rattle.choosers.specs.Heap.{heapOps}
 use Rattle.choosers.specs.List.{listOps}
 use Rattle.book.specs.Calls.{Call, bump, decay, setDecay, insert, switchOff, decide, enqueue, learnUnit, goBack, bumpReason, group}
@@ -18,10 +17,11 @@ use Rattle.book.specs.Session.{Result, done, refuse, status, reply, leaves, nee
 use Rattle.calls.specs.Entry.{replyNumber}
 use Rattle.text.specs.Text.{tab, newline, digits}
 use Rattle.text.specs.Laws.{digits-two, digits-five, digits-room}
-use Rattle.forms.specs.Forms.{Mode, Opening, callIn, codesIn, firstIn}
-use Rattle.sheet.specs.Sheet.{replyText, answerLine, answered}
+use Rattle.forms.specs.Forms.{Opening, callIn, codesIn, firstIn}
+use Rattle.sheet.specs.Sheet.{replyText, answerLine, ClauseList, added, answered}
 use Rattle.sheet.specs.Turns.{answered-turns}
-use Rattle.sheet.specs.Stages.{Stage, reading, inHeap, inList, called, staged, clauseWith, meets, turn, replyOf, answers, opening, started}
+use Rattle.sheet.specs.Stages.{Stage, reading, inHeap, inList, called, staged, onList, meets, turn, answers, opening, started}
+use Rattle.sheet.specs.Writing.{replyOf}
 
 -- five digits, two and ten, two tabs and a newline
 reply-short : (r : Option ℕ) → length (replyText r) ≤ 10
@@ -42,7 +42,7 @@ answer-short i k r five two =
     )
 
 -- the status is 0 or a refusal, none of which is above 14
-abbrev pub Few : {S : Type 0} → Result S → Type 0
+abbrev Few : {S : Type 0} → Result S → Type 0
 Few x = status x < 100
 
 need-few : {S : Type 0} (b : Bool) (k : ℕ) (x : Result S) → k < 100 → Few x → Few (need b k x)
@@ -85,13 +85,13 @@ staged-few : {S : Type 0} (stage : S → Stage) (x : Result S) → Few x → Few
 staged-few stage (done r s) q = q
 staged-few stage (refuse k) q = q
 
-clause-few : (mode : Mode) (n : ℕ) (lits ends : List ℕ) (codes : Option (List ℕ)) → Few (clauseWith mode n lits ends codes)
-clause-few mode n lits ends none = omega arith
-clause-few mode n lits ends (some codes) = need-few (clauseFits n (length ends) (length lits) codes) _ _ (omega arith) (omega arith)
+added-few : (n : ℕ) (list : ClauseList) (codes : Option (List ℕ)) → Few (added n list codes)
+added-few n list none = omega arith
+added-few n list (some codes) = need-few _ _ _ (omega arith) (omega arith)
 
 -- so it is of every line
 pub turn-small : (stage : Stage) (line : List ℕ) → status (turn stage line) < 100
-turn-small (reading mode n lits ends) line = clause-few mode n lits ends (codesIn line)
+turn-small (reading mode n lits ends) line = staged-few (onList mode n) (added n (lits, ends) (codesIn line)) (added-few n (lits, ends) (codesIn line))
 turn-small (inHeap n lits ends s) line = staged-few (inHeap n lits ends) (called n (length ends) (heapOps n lits ends) s (callIn line)) (status-small n (length ends) (heapOps n lits ends) s (callIn line))
 turn-small (inList n lits ends s) line = staged-few (inList n lits ends) (called n (length ends) (listOps n lits) s (callIn line)) (status-small n (length ends) (listOps n lits) s (callIn line))
 

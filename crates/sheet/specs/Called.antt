@@ -1,7 +1,6 @@
 -- A line of a session as code does it: the call that was read, answered, or refusal 3. Assumes nothing.
 use Prim.Native.Nat.{ℕ, _≤_}
 use mathlib.Core.Path.{_≡_, refl, sym, ap, _∙_}
-use mathlib.Core.Option.{none, some}
 use mathlib.Core.List.{List, []}
 use lib.ListN.{length, take}
 use Rattle.lit.specs.Numbers.{NONE, badLine}
@@ -16,7 +15,7 @@ use Rattle.forms.specs.declared.Read.the-variants as a-call
 use Rattle.forms.specs.declared.Count as count
 use Rattle.forms.specs.declared.Count.the-variants as a-count
 use Rattle.forms.specs.Forms.{callIn}
-use Rattle.forms.specs.Read.{callRead, CallRead, groupOn, groupRead, groupCount, GroupRead}
+use Rattle.forms.specs.Read.{callRead, CallRead, groupOn, groupRead, GroupRead}
 use Rattle.sheet.specs.Stages.{called}
 
 -- a line by what was read of it

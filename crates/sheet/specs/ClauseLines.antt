@@ -24,7 +24,7 @@ use Rattle.forms.specs.Lines.{codes-none, codes-behind}
 use Rattle.forms.specs.Short.{listed-short}
 use Rattle.sheet.specs.declared.clauses.Added.{Added}
 use Rattle.sheet.specs.Sheet.{ClauseList, added}
-use Rattle.sheet.specs.Stages.{Stage, reading, inHeap, inList, clauseWith, opened, answers}
+use Rattle.sheet.specs.Stages.{Stage, reading, inHeap, inList, staged-leaves, onList, clauseWith, opened, answers}
 use Rattle.sheet.specs.Running.{nextClause, codeCount, ClauseAdded, Slices, Takes}
 
 -- a line's first byte is the first byte from there on
@@ -58,21 +58,6 @@ added-good n list g (some codes) =
     (λ e. rw e (clauses-facts n (list .0 ++ codes) (withEnd (list .0) (list .1) codes) .0 (fits-added n (list .0) (list .1) codes (clauses-facts n (list .0) (list .1) .1 g) ∙ e)))
     (λ e. rw e g)
 
-module _ (mode : Mode) (n : ℕ) where
-  abbrev pub onList : ClauseList → Stage
-  onList list = reading mode n (list .0) (list .1)
-
-  -- a clause line on the stage is one on the clause list
-  pub added-status : (list : ClauseList) (codes : Option (List ℕ)) → status (clauseWith mode n (list .0) (list .1) codes) ≡ status (added n list codes)
-  unfolding need
-  added-status list none = refl
-  added-status list (some codes) = true-or-false (clauseFits n (length (list .1)) (length (list .0)) codes) (λ e. rw e) (λ e. rw e)
-
-  pub added-leaves : (list : ClauseList) (codes : Option (List ℕ)) → leaves (onList list) (clauseWith mode n (list .0) (list .1) codes) ≡ onList (leaves list (added n list codes))
-  unfolding need
-  added-leaves list none = refl
-  added-leaves list (some codes) = true-or-false (clauseFits n (length (list .1)) (length (list .0)) codes) (λ e. rw e) (λ e. rw e)
-
 module _ (mode : Mode) (n : ℕ) (lits ends : List ℕ) where
   -- a clause line has no reply
   pub clause-reply : (codes : Option (List ℕ)) → reply (clauseWith mode n lits ends codes) ≡ none
@@ -82,7 +67,7 @@ module _ (mode : Mode) (n : ℕ) (lits ends : List ℕ) where
 
   -- and leaves a good clause list good
   pub clause-good : GoodClauses n lits ends → (codes : Option (List ℕ)) → GoodStage (leaves (reading mode n lits ends) (clauseWith mode n lits ends codes))
-  clause-good g codes = subst (λ (s : Stage). GoodStage s) (sym (added-leaves mode n (lits, ends) codes)) (added-good n (lits, ends) g codes)
+  clause-good g codes = subst (λ (s : Stage). GoodStage s) (sym (staged-leaves (onList mode n) (lits, ends) (added n (lits, ends) codes))) (added-good n (lits, ends) g codes)
 
 -- a clause line with many codes is long
 pub codes-short : (line : List ℕ) → 2 * codeCount (codesIn line) ≤ length line

@@ -61,7 +61,7 @@ nextClause [] = false
 nextClause (line ∷ ls) = beginsClause line
 
 -- the clause list at the front of the slices, as a stage
-abbrev pub readingOf : Mode → ℕ → List ℕ → List ℕ → ℕ → ℕ → Stage
+abbrev readingOf : Mode → ℕ → List ℕ → List ℕ → ℕ → ℕ → Stage
 readingOf mode n lits ends literals clauses = reading mode n (take literals lits) (take clauses ends)
 
 abbrev pub stageOf : Mode → ℕ → List ℕ → List ℕ → Section → Stage

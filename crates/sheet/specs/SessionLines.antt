@@ -2,22 +2,22 @@
 use Prim.Native.Nat.{ℕ, _+_, _≤_, _<_}
 use mathlib.Core.Path.{_≡_, refl, sym, ap, subst, _∙_}
 use mathlib.Core.Option.{Option, none, some}
-use mathlib.Core.List.{List, []}
+use mathlib.Core.List.{List}
 use native.Mathlib.Omega.{arith}
 use lib.ListN.{length}
 use Rattle.lit.specs.Numbers.{answerRoom}
 use Rattle.book.specs.Calls.{Call}
 use Rattle.book.specs.Chooser.{Operations}
-use Rattle.book.specs.Session.{Result, done, refuse, status, reply, leaves, Session, call}
-use Rattle.calls.specs.Entry.{Answered, replyNumber}
+use Rattle.book.specs.Session.{Result, status, reply, leaves, Session, call}
+use Rattle.calls.specs.Entry.{Answered}
 use Rattle.text.specs.Text.{written}
 use Rattle.forms.specs.Forms.{callIn}
 use Rattle.sheet.specs.declared.Place.{Place}
 use Rattle.sheet.specs.Sheet.{answerLine}
-use Rattle.sheet.specs.Stages.{Stage, called, staged, staged-status, staged-reply, staged-leaves, meets, turn, replyOf, answers}
-use Rattle.sheet.specs.Writing.{Wrote, same-room}
+use Rattle.sheet.specs.Stages.{Stage, called, staged, staged-status, staged-reply, staged-leaves, meets, turn, answers}
+use Rattle.sheet.specs.Writing.{Wrote, same-room, replyOf}
 use Rattle.sheet.specs.Bounds.{Small, answer-short, status-small, answer-text}
-use Rattle.sheet.specs.Running.{linesFrom, lineLength, lineFrom, after, Room, Ended, SameEnd}
+use Rattle.sheet.specs.Running.{lineLength, lineFrom, after, Room, Ended, SameEnd}
 use Rattle.sheet.specs.Steps.{same-end, lines-over, answer-room, room-behind, end-behind}
 
 -- Lines of a session are answered, from s on up to u: there is room for the rest, u is good, and the run comes to the same end from there.

@@ -32,7 +32,8 @@ callsOf [] = []
 callsOf (none ∷ cs) = callsOf cs
 callsOf (some c ∷ cs) = c ∷ callsOf cs
 
--- the answers to lines from the i-th on: 3 where a line has no call's form, else the next of what a log says of the calls
+-- the answers to lines from the i-th on: 3 where a line has no call's form, else the next of what a log says of the calls. The third clause never comes: a
+-- run logs every call.
 unfoldable pub logged : ℕ → List (Option Call) → List Line → List ℕ
 logged i [] ls = []
 logged i (none ∷ cs) ls = answerLine i badLine none ++ logged (i + 1) cs ls

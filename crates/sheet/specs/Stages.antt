@@ -6,17 +6,15 @@ use mathlib.Core.Bool.{cond}
 use mathlib.Core.Option.{Option, none, some}
 use mathlib.Core.List.{List, [], _∷_, _++_}
 use lib.ListN.{length}
-use lib.Dec.{leb, eqb}
-use Rattle.lit.specs.Numbers.{NONE, maxVars, badLine, manyVars, badClauses}
-use Rattle.formula.specs.Clauses.{clauseFits}
-use Rattle.formula.specs.Adding.{withEnd}
+use lib.Dec.{leb}
+use Rattle.lit.specs.Numbers.{maxVars, badLine, manyVars}
 use Rattle.choosers.specs.Heap.{heapOps}
 use Rattle.choosers.specs.List.{listOps}
 use Rattle.book.specs.Calls.{Call}
 use Rattle.book.specs.Chooser.{Operations}
 use Rattle.book.specs.Session.{Result, done, refuse, status, reply, leaves, need, Session, fresh, call}
 use Rattle.forms.specs.Forms.{Mode, vsids, vmtf, Opening, callIn, beginsClause, codesIn}
-use Rattle.sheet.specs.Sheet.{answerLine}
+use Rattle.sheet.specs.Sheet.{answerLine, ClauseList, added}
 
 -- Where a run stands between two lines: among the clause lines, or in a session of either mode.
 pub data Stage : Type 0 where
@@ -47,20 +45,21 @@ module _ {S : Type 0} (stage : S → Stage) where
   staged-leaves s (done r u) = refl
   staged-leaves s (refuse k) = refl
 
-abbrev pub callLine : (n m : ℕ) (O : Operations) → (Session n m O → Stage) → Session n m O → List ℕ → Result Stage
+abbrev callLine : (n m : ℕ) (O : Operations) → (Session n m O → Stage) → Session n m O → List ℕ → Result Stage
 callLine n m O stage s line = staged stage (called n m O s (callIn line))
 
-abbrev pub heapLine : (n : ℕ) (lits ends : List ℕ) → Session n (length ends) (heapOps n lits ends) → List ℕ → Result Stage
+abbrev heapLine : (n : ℕ) (lits ends : List ℕ) → Session n (length ends) (heapOps n lits ends) → List ℕ → Result Stage
 heapLine n lits ends = callLine n (length ends) (heapOps n lits ends) (inHeap n lits ends)
 
-abbrev pub listLine : (n : ℕ) (lits ends : List ℕ) → Session n (length ends) (listOps n lits) → List ℕ → Result Stage
+abbrev listLine : (n : ℕ) (lits ends : List ℕ) → Session n (length ends) (listOps n lits) → List ℕ → Result Stage
 listLine n lits ends = callLine n (length ends) (listOps n lits) (inList n lits ends)
 
--- a clause line: 3 by its form, 6 where the longer list would break its paragraph
+-- a clause line
+abbrev pub onList : Mode → ℕ → ClauseList → Stage
+onList mode n list = reading mode n (list .0) (list .1)
+
 abbrev pub clauseWith : Mode → ℕ → List ℕ → List ℕ → Option (List ℕ) → Result Stage
-clauseWith mode n lits ends none = refuse badLine
-clauseWith mode n lits ends (some codes) =
-    need (clauseFits n (length ends) (length lits) codes) badClauses (done none (reading mode n (lits ++ codes) (withEnd lits ends codes)))
+clauseWith mode n lits ends codes = staged (onList mode n) (added n (lits, ends) codes)
 
 -- 'The session is made fresh once these are read.'
 abbrev pub opened : Mode → ℕ → List ℕ → List ℕ → Stage
@@ -78,10 +77,6 @@ abbrev pub turn : Stage → List ℕ → Result Stage
 turn (reading mode n lits ends) line = clauseWith mode n lits ends (codesIn line)
 turn (inHeap n lits ends s) line = heapLine n lits ends s line
 turn (inList n lits ends s) line = listLine n lits ends s line
-
--- a reply as code has it
-abbrev pub replyOf : ℕ → Option ℕ
-replyOf r = cond (eqb r NONE) none (some r)
 
 -- the answers to the lines from the i-th on
 unfoldable pub answers : ℕ → Stage → List (List ℕ) → List ℕ

@@ -2,11 +2,11 @@
 -- with a call is a step of the book's run, and any other leaves the run as it is.
 use Prim.Native.Nat.{ℕ, suc, _+_}
 use mathlib.Core.Path.{_≡_, refl, sym, ap, _∙_}
-use mathlib.Core.Bool.{true, false}
+use mathlib.Core.Bool.{false}
 use mathlib.Core.Option.{Option, none, some}
 use mathlib.Core.List.{List, [], _∷_, _++_, map, reverse, append-nil, append-assoc, reverse-cons}
 use native.Mathlib.Omega.{arith}
-use lib.ListN.{length, drop}
+use lib.ListN.{length}
 use lib.Dec.{leb}
 use Rattle.lit.specs.Numbers.{maxVars, badLine}
 use Rattle.laws.specs.Tests.{true-or-false}
@@ -18,8 +18,8 @@ use Rattle.book.specs.Session.{status, reply, leaves, need, Session, fresh, cal
 use Rattle.book.specs.Claim.{log, Run, begin, step, run}
 use Rattle.forms.specs.Forms.{Mode, vsids, vmtf, Opening, callIn, codesIn, beginsClause, firstIn}
 use Rattle.sheet.specs.Sheet.{answerLine, callsOf, logged, sessionAnswers, ClauseList, chooserOf, added, clauseLines, listed, clauseAnswers, behindFirst, fromFirst, answered}
-use Rattle.sheet.specs.Stages.{Stage, inHeap, inList, called, staged-status, staged-reply, staged-leaves, opened, answers, opening, started}
-use Rattle.sheet.specs.ClauseLines.{section-over, onList, added-status, added-leaves, clause-reply}
+use Rattle.sheet.specs.Stages.{Stage, inHeap, inList, called, staged-status, staged-reply, staged-leaves, onList, opened, answers, opening, started}
+use Rattle.sheet.specs.ClauseLines.{section-over, clause-reply}
 
 -- ---- a session
 module _ (n m : ℕ) (O : Operations) where
@@ -90,7 +90,7 @@ module _ (mode : Mode) (n : ℕ) where
       (let x = added n list (codesIn line) in
       let cs = clauseLines ls in
       let place : i + suc (length cs) ≡ i + 1 + length cs = omega arith in
-      rw (e, clause-reply mode n (list .0) (list .1) (codesIn line), added-status mode n list (codesIn line), added-leaves mode n list (codesIn line), place, sym (behind-turns ls (i + 1) (leaves list x)))
+      rw (e, clause-reply mode n (list .0) (list .1) (codesIn line), staged-status (onList mode n) x, staged-leaves (onList mode n) list x, place, sym (behind-turns ls (i + 1) (leaves list x)))
       (append-assoc (answerLine i (status x) none) (clauseAnswers n (i + 1) (leaves list x) cs) _)))
       (session-turns line ls i list)
 

@@ -1,10 +1,13 @@
 -- Writing piece by piece: what is written behind a piece is written with it; and the pieces of an answer line.
 use Prim.Native.Nat.{ℕ, _+_}
-use mathlib.Core.Path.{_≡_, refl, sym, ap, _∙_}
-use mathlib.Core.Option.{Option}
+use mathlib.Core.Path.{_≡_, refl, ap, _∙_}
+use mathlib.Core.Bool.{cond}
+use mathlib.Core.Option.{Option, none, some}
 use mathlib.Core.List.{List, [], _∷_, _++_, append-assoc}
 use native.Mathlib.Omega.{arith}
 use lib.ListN.{length, set, length-append}
+use lib.Dec.{eqb}
+use Rattle.lit.specs.Numbers.{NONE}
 use Rattle.text.specs.Text.{tab, newline, digits, written}
 use Rattle.text.specs.Laws.{written-append, written-length}
 use Rattle.sheet.specs.Sheet.{replyText, answerLine}
@@ -27,6 +30,10 @@ put-one {r = r} {k} b w = put-more w (record { buffer = refl; place = refl })
 -- the buffer keeps its length
 pub same-room : {at : ℕ} {a l r : List ℕ} {k : ℕ} → Wrote at a l r k → length r ≡ length l
 same-room {at} {a} {l} w = ap length (w .buffer) ∙ written-length at a l
+
+-- a reply as code has it
+abbrev pub replyOf : ℕ → Option ℕ
+replyOf r = cond (eqb r NONE) none (some r)
 
 -- a number, with the tab behind it
 unfoldable pub field : ℕ → List ℕ

@@ -1,5 +1,5 @@
 -- `sheet::clauses::clause_line` meets its contract: reading writes only behind the literals, and what it finds there is added.
-use Prim.Native.Nat.{_-_, _≤_}
+use Prim.Native.Nat.{_-_}
 use mathlib.Core.Path.{_≡_, _∙_}
 use native.Mathlib.Omega.{arith}
 use borrow.Rule.Slice.PartMut.{putMid, mid-len, same-len-mid, take-put}
