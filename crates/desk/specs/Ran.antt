@@ -19,7 +19,7 @@ use Rattle.sheet.specs.Running.{Room}
 use Rattle.desk_first.specs.First.{atFirst}
 
 -- what the host gets and the buffer are the run's
-abbrev pub Gave : (sheet out : List ℕ) → ℕ → List ℕ → Type 0
+abbrev Gave : (sheet out : List ℕ) → ℕ → List ℕ → Type 0
 Gave sheet out r out′ = (r ≡ result (ran sheet (length out))) × (out′ ≡ written 0 (leaves [] (ran sheet (length out))) out)
 
 module _ (sheet out : List ℕ) where

@@ -1,7 +1,7 @@
 -- A sheet from its first line on, as code runs it: what the first line opens, and the lines behind it. Assumes nothing.
 use Prim.Native.Nat.{ℕ, _+_, _≤_, _<_}
 use mathlib.Core.Path.{_≡_, refl, sym, ap, subst, _∙_}
-use mathlib.Core.Bool.{Bool, true, false, cond}
+use mathlib.Core.Bool.{Bool, true, false}
 use mathlib.Core.Option.{Option, none, some}
 use mathlib.Core.List.{List, []}
 use native.Mathlib.Omega.{arith}
@@ -9,14 +9,14 @@ use borrow.Author.Tests.{le-leb, lt-leb}
 use lib.ListN.{length, take}
 use Rattle.lit.specs.Numbers.{maxVars, answerRoom, manyVars}
 use Rattle.book.specs.Session.{need}
-use Rattle.text.specs.Text.{lines, written}
+use Rattle.text.specs.Text.{lines}
 use Rattle.forms.specs.declared.First as code
 use Rattle.forms.specs.declared.First.the-variants as first
 use Rattle.forms.specs.Forms.{Mode, vsids, vmtf, Opening, firstIn}
 use Rattle.forms.specs.Read.{inMode, firstOf}
 use Rattle.sheet.specs.declared.Place.{Place}
 use Rattle.sheet.specs.Sheet.{answerLine, answered}
-use Rattle.sheet.specs.Stages.{reading, answers, opening, started}
+use Rattle.sheet.specs.Stages.{reading, opening, started}
 use Rattle.sheet.specs.Turns.{answered-turns}
 use Rattle.sheet.specs.Writing.{Wrote, put-more}
 use Rattle.sheet.specs.Bounds.{answer-short}

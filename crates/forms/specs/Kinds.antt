@@ -91,7 +91,7 @@ module _ (b : ℕ) where
       record { at = λ n. absurd (n refl) })))))))))))))
 
   -- so the table's number tells the letter
-  pub number-tells : (k : Kind) → kindOf (letter k) ≡ k → (k ≡ isOther → ⊥) → eqb (kindNumber (kindOf b)) (kindNumber k) ≡ eqb b (letter k)
+  number-tells : (k : Kind) → kindOf (letter k) ≡ k → (k ≡ isOther → ⊥) → eqb (kindNumber (kindOf b)) (kindNumber k) ≡ eqb b (letter k)
   number-tells k e n =
       same-test (eqb (kindNumber (kindOf b)) (kindNumber k)) (eqb b (letter k))
       (λ t.

@@ -10,7 +10,7 @@ use lib.ListN.{length, getD, take, drop, length-drop}
 use lib.Seq.{drop-drop}
 use borrow.Author.Tests.{eq-eqb, ne-eqb}
 use Rattle.laws.specs.Tests.{true-or-false}
-use Rattle.text.specs.Text.{tab, find, splitFrom, fields, number}
+use Rattle.text.specs.Text.{tab, find, splitFrom, number}
 use Rattle.text.specs.Laws.{find-length}
 use Rattle.book.specs.Calls.{Call, bump, decay, insert, switchOff, decide, learnUnit, goBack, bumpReason}
 use Rattle.forms.specs.Forms.{Kind, kindOf, bumps, decays, setsDecay, inserts, switchesOff, decides, enqueues, learnsUnit, goesBack, bumpsReason, movesGroup, isClause, isFirst, isOther, given, alone, one, two, oneNumber, decayIn, numbers, enqueueIn, callWith, callIn, beginsClause, codesIn, openingIn, firstIn}
@@ -107,7 +107,7 @@ made make [] = refl
 made make (f ∷ []) = refl
 made make (f ∷ (g ∷ fs)) = refl
 
-pub one-kind : (x : Kind) (o : Option (List (List ℕ))) → (kindNumber x ≡ 2 → ⊥) → (kindNumber x ≡ 3 → ⊥) → (kindNumber x ≡ 7 → ⊥) → (kindNumber x ≡ 11 → ⊥) → given (given o (one number)) (numbered x) ≡ given o (callWith x)
+one-kind : (x : Kind) (o : Option (List (List ℕ))) → (kindNumber x ≡ 2 → ⊥) → (kindNumber x ≡ 3 → ⊥) → (kindNumber x ≡ 7 → ⊥) → (kindNumber x ≡ 11 → ⊥) → given (given o (one number)) (numbered x) ≡ given o (callWith x)
 one-kind x none d w e f = refl
 one-kind bumps (some fs) d w e f = made bump fs
 one-kind inserts (some fs) d w e f = made insert fs

@@ -1,6 +1,6 @@
 -- A session made fresh at the end of the clause lines, as code holds it: it is good, it passes its check, and it is the stage that the next line meets. Assumes nothing.
 use Prim.Native.Nat.{ℕ, _≤_}
-use mathlib.Core.Path.{_≡_, refl}
+use mathlib.Core.Path.{_≡_}
 use mathlib.Core.Bool.{true}
 use mathlib.Core.List.{List}
 use native.Mathlib.Omega.{arith}

@@ -43,7 +43,7 @@ module _ {A : Type 0} (t : Bool) (o : Option A) where
 pub record Field {A : Type 0} (read : List ℕ → Option A) (text : A → List ℕ) (Ok : A → Type 0) : Type 0 where
   pub said : (f : List ℕ) (x : A) → read f ≡ some x → (f ≡ text x) × Ok x
   pub back : (x : A) → Ok x → read (text x) ≡ some x
-  pub no-tab : (f : List ℕ) → find tab f < length f → read f ≡ none
+  no-tab : (f : List ℕ) → find tab f < length f → read f ≡ none
 
 module _ {A : Type 0} {read : List ℕ → Option A} {text : A → List ℕ} {Ok : A → Type 0} (F : Field read text Ok) where
   pub taken : {B : Type 0} (P : List ℕ → Type 0) (f : List ℕ) (g : A → Option B) {y : B} → given (read f) g ≡ some y → ((x : A) → Ok x → g x ≡ some y → P (text x)) → P f
