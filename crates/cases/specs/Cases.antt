@@ -4,9 +4,9 @@ use mathlib.Core.Path.{_≡_, refl}
 use mathlib.Core.Bool.{true, false}
 use mathlib.Core.List.{[], _∷_, map}
 use Rattle.lit.specs.Numbers.{NONE}
-use Rattle.formula_checks.specs.declared.SatResult.the-variants.{Err, Sat, Unsat}
-use Rattle.formula_checks.specs.declared.Checked.the-variants.{Answer}
-use Rattle.formula_checks.specs.Checks.{satNumber, checkedNumbers}
+use Rattle.formula.specs.declared.checks.SatResult.the-variants.{Err, Sat, Unsat}
+use Rattle.formula.specs.declared.checks.Checked.the-variants.{Answer}
+use Rattle.formula.specs.Checks.{satNumber, checkedNumbers}
 use Rattle.vsids.specs.Vsids.{Vsids}
 use Rattle.vmtf.specs.Vmtf.{countLits}
 use Rattle.book.specs.Calls.{bump, decay, setDecay, switchOff, decide, learnUnit, goBack, group}

@@ -4,10 +4,10 @@ use Rattle.laws.specs.Every.{every}
 use Rattle.laws.specs.InPlace.{upTo}
 use Rattle.util.specs.SortReverse.{pick, greatest, sortFrom, sortReverse}
 use Rattle.formula.specs.Clauses.{noFallAt, endsOk, listOk, varBelow, varsBelow, clausesOk, clausesFrom}
-use Rattle.formula_checks.specs.Checks.{differ, newAt, noDuplicates, checkClauseInvariant, checkEach, checkFormulaInvariant, listRefusal, checkFormulaInvariantCall}
+use Rattle.formula.specs.Checks.{differ, newAt, noDuplicates, checkClauseInvariant, checkEach, checkFormulaInvariant, listRefusal, checkFormulaInvariantCall}
 use Rattle.activity.specs.Step.{upright, within}
 use Rattle.trail.specs.Trail.{freshTrail, enqAssignment, enqDecision, backstep, backsteps, closeLevels, rewind, backtrackTo, undone, backtrackSafe}
-use Rattle.trail_tests.specs.Check.{countsOk, valuesOk, reasonsOk, unusedOk, placesOk, heldOk, openedOk, levelsOk, trailOk}
+use Rattle.trail_check.specs.Check.{countsOk, valuesOk, reasonsOk, unusedOk, placesOk, heldOk, openedOk, levelsOk, trailOk}
 use Rattle.heap.specs.Heap as heap
 use Rattle.vsids.specs.Vsids as vsids
 use Rattle.vsids.specs.Check.{memberOk, placeOk, positionOk, variableOk, checkHeap}

@@ -4,10 +4,10 @@ use mathlib.Core.Bool.{Bool, true, _&&_}
 use mathlib.Core.Option.{Option, none, some}
 use mathlib.Core.List.{List, [], _∷_, _++_}
 use lib.ListN.{length}
-use Rattle.formula_checks.specs.declared.Checked.{Checked}
+use Rattle.formula.specs.declared.checks.Checked.{Checked}
 use Rattle.formula.specs.Clauses.{clausesOk}
-use Rattle.formula_checks.specs.Checks.{checkFormulaInvariantCall}
-use Rattle.trail_tests.specs.Check.{trailOk}
+use Rattle.formula.specs.Checks.{checkFormulaInvariantCall}
+use Rattle.trail_check.specs.Check.{trailOk}
 use Rattle.vsids.specs.Check.{checkHeap}
 use Rattle.vmtf.specs.Vmtf.{checkList}
 use Rattle.book.specs.Calls.{Call}

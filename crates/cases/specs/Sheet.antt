@@ -6,7 +6,7 @@ use mathlib.Core.List.{List, [], _∷_, _++_}
 use Rattle.formula.specs.Clauses.{clauseFits}
 use Rattle.book.specs.Session.{done}
 use Rattle.book.specs.Claim.{begin, step, run}
-use Rattle.text.specs.Text as text
+use Rattle.forms.specs.Text as text
 use Rattle.forms.specs.Forms as forms
 use Rattle.sheet.specs.Sheet.{answerLine, callsOf, logged, clauseLines, listed, clauseAnswers, behindFirst, answered, ran}
 use Rattle.cases.specs.Definitions.{definitions}

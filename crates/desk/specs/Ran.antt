@@ -10,13 +10,13 @@ use lib.ListN.{length, set}
 use Rattle.laws.specs.Tests.{true-or-false}
 use Rattle.lit.specs.Numbers.{NONE, maxSheet, answerRoom, longSheet, shortBuffer}
 use Rattle.book.specs.Session.{Result, done, refuse, leaves, need}
-use Rattle.text.specs.Text.{newline, lines, occurs, digits, written}
-use Rattle.text.specs.Laws.{occurs-length, lines-end, lines-length, digits-one}
+use Rattle.forms.specs.Text.{newline, lines, occurs, digits, written}
+use Rattle.forms.specs.TextLaws.{occurs-length, lines-end, lines-length, digits-one}
 use Rattle.sheet.specs.Sheet.{answered, ran, result}
 use Rattle.sheet.specs.Writing.{Wrote}
 use Rattle.sheet.specs.Bounds.{answered-short}
 use Rattle.sheet.specs.Running.{Room}
-use Rattle.desk_first.specs.First.{atFirst}
+use Rattle.desk.specs.First.{atFirst}
 
 -- what the host gets and the buffer are the run's
 abbrev Gave : (sheet out : List ℕ) → ℕ → List ℕ → Type 0

@@ -2,19 +2,22 @@
 ghost use mathlib.Core.Path.{_≡_};
 ghost use Prim.Native.Nat.{_≤_};
 ghost use lib.ListN.{length};
-ghost use Rattle.text.specs.Text as text-spec;
+ghost use Rattle.forms.specs.Text as text-spec;
 ghost use mathlib.Core.List.{[]};
 ghost use Rattle.book.specs.Session.{leaves};
 ghost use Rattle.sheet.specs.Sheet.{ran, result};
 ghost use Rattle.sheet.specs.Writing.{Wrote};
 ghost use Rattle.desk.specs.Ran.{printed};
-use desk_first::answer_all;
+use crate::opening::answer_all;
+use forms::text::NEWLINE;
 use lit::ANSWER_ROOM;
 use lit::LONG_SHEET;
 use lit::MAX_SHEET;
 use lit::NONE;
 use lit::SHORT_BUFFER;
-use text::NEWLINE;
+
+pub mod memory;
+pub mod opening;
 
 // Runs a sheet: gives the count of bytes written to `out`, or 4294967295 minus refusal 1 or 2. The positions are working memory for the heap,
 // which takes its own where they are too few; what they hold afterwards is left open.
@@ -25,7 +28,7 @@ pub fn run(sheet: &[u8], out: &mut [u8], positions: &mut [u32]) -> u32
     if sheet.len() > MAX_SHEET as usize {
         return NONE - LONG_SHEET;
     }
-    let count = text::occurs(sheet, NEWLINE);
+    let count = forms::text::occurs(sheet, NEWLINE);
     if out.len() < ANSWER_ROOM as usize * count {
         return NONE - SHORT_BUFFER;
     }

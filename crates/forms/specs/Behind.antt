@@ -9,7 +9,7 @@ use lib.Dec.{eqb, leb}
 use lib.ListN.{length, getD, drop}
 use borrow.Author.Tests.{eqb-true, eqb-false, eq-eqb, ne-eqb, leb-true, leb-false}
 use Rattle.laws.specs.Tests.{true-or-false, and-left, and-right}
-use Rattle.text.specs.Text.{tab, find, splitFrom, fields}
+use Rattle.forms.specs.Text.{tab, find, splitFrom, fields}
 use Rattle.forms.specs.Forms.{given, lettered}
 
 -- the fields behind the letter, of the bytes behind it: none where the line ends there, else a tab and the fields after it

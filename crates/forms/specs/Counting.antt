@@ -7,7 +7,7 @@ use native.Mathlib.Omega.{arith}
 use native.Mathlib.Numerals.{add-one}
 use lib.ListN.{length, take, drop, set, length-append, length-drop, length-set}
 use lib.Seq.{take-suc-set, append-snoc, drop-drop}
-use Rattle.text.specs.Text.{tab, find, fields, number}
+use Rattle.forms.specs.Text.{tab, find, fields, number}
 use Rattle.forms.specs.Forms.{given, numbers}
 use Rattle.forms.specs.Laws.{numbers-last, numbers-found, numbers-bad}
 use Rattle.forms.specs.Read.{Counted}

@@ -8,7 +8,7 @@ use lib.Dec.{eqb, leb}
 use lib.Ieee.{binary64, ofBits}
 use Rattle.lit.specs.Numbers.{NONE, maxGroup}
 use Rattle.book.specs.Calls.{Call, bump, decay, setDecay, insert, switchOff, decide, enqueue, learnUnit, goBack, bumpReason, group}
-use Rattle.text.specs.Text.{fields, number, pattern}
+use Rattle.forms.specs.Text.{fields, number, pattern}
 
 -- what a line's first byte says that it is
 pub data Kind : Type 0 where

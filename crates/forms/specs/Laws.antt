@@ -12,8 +12,8 @@ use lib.Dec.{eqb}
 use lib.ListN.{length, take, drop}
 use lib.Seq.{take-all}
 use Rattle.laws.specs.Tests.{true-or-false, and-left, and-right, and-true, and-false, not-true}
-use Rattle.text.specs.Text.{tab, find, fields, all, isDigit, isHex, plain, number, pattern}
-use Rattle.text.specs.Laws.{find-length, split-found, split-last}
+use Rattle.forms.specs.Text.{tab, find, fields, all, isDigit, isHex, plain, number, pattern}
+use Rattle.forms.specs.TextLaws.{find-length, split-found, split-last}
 use Rattle.forms.specs.Forms.{given, alone, one, two, numbers, is, reasonIn, modeIn}
 
 -- the fields are at least one

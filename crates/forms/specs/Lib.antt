@@ -8,3 +8,11 @@ pub mod Counting
 pub mod Short
 pub mod Told
 pub mod Lines
+pub mod Text
+pub mod TextRead
+pub mod Reading
+pub mod TextLaws
+pub mod Spelling
+pub mod Words
+pub mod Pieces
+pub mod SpellingLaws

@@ -10,8 +10,8 @@ use lib.ListN.{length, getD, take, drop, length-drop}
 use lib.Seq.{drop-drop}
 use borrow.Author.Tests.{eq-eqb, ne-eqb}
 use Rattle.laws.specs.Tests.{true-or-false}
-use Rattle.text.specs.Text.{tab, find, splitFrom, number}
-use Rattle.text.specs.Laws.{find-length}
+use Rattle.forms.specs.Text.{tab, find, splitFrom, number}
+use Rattle.forms.specs.TextLaws.{find-length}
 use Rattle.book.specs.Calls.{Call, bump, decay, insert, switchOff, decide, learnUnit, goBack, bumpReason}
 use Rattle.forms.specs.Forms.{Kind, kindOf, bumps, decays, setsDecay, inserts, switchesOff, decides, enqueues, learnsUnit, goesBack, bumpsReason, movesGroup, isClause, isFirst, isOther, given, alone, one, two, oneNumber, decayIn, numbers, enqueueIn, callWith, callIn, beginsClause, codesIn, openingIn, firstIn}
 use Rattle.forms.specs.Kinds.{kindNumber, ofNumber, of-number, tells-first}

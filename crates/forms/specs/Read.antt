@@ -5,7 +5,7 @@ use mathlib.Core.List.{List, []}
 use Prim.Native.Nat.{ℕ, _*_, _≤_}
 use lib.ListN.{length, take, drop}
 use Rattle.lit.specs.Numbers.{maxGroup}
-use Rattle.calls.specs.Calls.{callOf}
+use Rattle.session.specs.Calls.{callOf}
 use Rattle.book.specs.Calls.{Call, bump, insert, switchOff, decide, learnUnit, goBack, bumpReason, group}
 use Rattle.forms.specs.declared.Read as read
 use Rattle.forms.specs.declared.Read.the-variants as a-call

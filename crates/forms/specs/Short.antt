@@ -7,7 +7,7 @@ use native.Mathlib.Omega.{arith}
 use lib.Dec.{eqb}
 use lib.ListN.{length, drop, length-append}
 use Rattle.laws.specs.Tests.{true-or-false}
-use Rattle.text.specs.Text.{tab, splitFrom, number, plain}
+use Rattle.forms.specs.Text.{tab, splitFrom, number, plain}
 use Rattle.forms.specs.Forms.{given, numbers}
 use Rattle.forms.specs.Behind.{behind}
 

@@ -9,10 +9,10 @@ use lib.Dec.{leb}
 use lib.ListN.{length, take, drop}
 use borrow.Author.Tests.{le-leb, lt-leb}
 use Rattle.lit.specs.Numbers.{maxGroup}
-use Rattle.text.specs.declared.Whole.the-variants as a-whole
-use Rattle.text.specs.declared.Field.the-variants as a-field
-use Rattle.text.specs.declared.Bits.the-variants as a-pattern
-use Rattle.text.specs.Read.{wholeOf, fieldOf, bitsOf}
+use Rattle.forms.specs.declared.text.Whole.the-variants as a-whole
+use Rattle.forms.specs.declared.text.Field.the-variants as a-field
+use Rattle.forms.specs.declared.text.Bits.the-variants as a-pattern
+use Rattle.forms.specs.TextRead.{wholeOf, fieldOf, bitsOf}
 use Rattle.book.specs.Calls.{Call, group}
 use Rattle.forms.specs.declared.Count as count
 use Rattle.forms.specs.declared.Count.the-variants as a-count

@@ -6,16 +6,20 @@ ghost use mathlib.Core.Option.{some};
 ghost use mathlib.Core.List.{List};
 ghost use Prim.Native.Nat.{ℕ};
 ghost use lib.ListN.{drop, set};
-ghost use Rattle.text.specs.Text.{fields};
-ghost use Rattle.text.specs.Text as text-spec;
-ghost use Rattle.text.specs.Read.{wholeOf};
+ghost use Rattle.forms.specs.Text.{fields};
+ghost use Rattle.forms.specs.Text as text-spec;
+ghost use Rattle.forms.specs.TextRead.{wholeOf};
 ghost use Rattle.forms.specs.Forms as spec;
 ghost use Rattle.forms.specs.Kinds.{ofNumber};
 ghost use Rattle.forms.specs.Behind.{behind, tabbed, secondTab};
 ghost use Rattle.forms.specs.Read.{callRead, CallRead, Fits, GroupRead, Counted, firstOf, numbered};
-use calls::Call;
+use crate::text::Bits;
+use crate::text::Field;
+use crate::text::TAB;
+use crate::text::Whole;
 use lit::MAX_GROUP;
 use lit::NONE;
+use session::Call;
 use table::BUMPS;
 use table::BUMPS_REASON;
 use table::CLAUSE;
@@ -30,10 +34,9 @@ use table::MOVES_GROUP;
 use table::SETS_DECAY;
 use table::SWITCHES_OFF;
 use table::kind;
-use text::Bits;
-use text::Field;
-use text::TAB;
-use text::Whole;
+
+pub mod spelling;
+pub mod text;
 
 // A call, a group whose variables are still to be read, or none where the line has no call's form.
 pub enum Read {
@@ -99,7 +102,7 @@ fn second_tab(line: &[u8]) -> usize
     if !has_fields(line) {
         return line.len();
     }
-    2 + text::find(&line[2..], TAB)
+    2 + crate::text::find(&line[2..], TAB)
 }
 
 // The whole number behind a line's letter, if it is the one field there.
@@ -109,7 +112,7 @@ fn one_number(line: &[u8]) -> Whole
     if !has_fields(line) {
         return Whole::Bad;
     }
-    text::number(&line[2..])
+    crate::text::number(&line[2..])
 }
 
 // Stores a number at a place of out, if out has it.
@@ -128,7 +131,7 @@ fn read_numbers(bytes: &[u8], out: &mut [u32]) -> Count
     let mut n = 0;
     let mut at = 0;
     loop {
-        let Field::Is(v, end) = text::number_at(bytes, at) else {
+        let Field::Is(v, end) = crate::text::number_at(bytes, at) else {
             return Count::Bad;
         };
         put(out, n, v);
@@ -170,7 +173,7 @@ fn read_reason(field: &[u8]) -> Whole
     if is(field, b"-") {
         return Whole::Is(NONE);
     }
-    let Whole::Is(reason) = text::number(field) else {
+    let Whole::Is(reason) = crate::text::number(field) else {
         return Whole::Bad;
     };
     if reason == NONE {
@@ -186,10 +189,10 @@ fn read_decay(line: &[u8]) -> Read
     if !has_fields(line) {
         return Read::Bad;
     }
-    let Bits::Are(p) = text::pattern(&line[2..]) else {
+    let Bits::Are(p) = crate::text::pattern(&line[2..]) else {
         return Read::Bad;
     };
-    Read::Is(Call::SetDecay(text::double(p)))
+    Read::Is(Call::SetDecay(crate::text::double(p)))
 }
 
 // `e`: a code and a reason.
@@ -200,7 +203,7 @@ fn read_enqueue(line: &[u8]) -> Read
     if end == line.len() {
         return Read::Bad;
     }
-    let Whole::Is(code) = text::number(&line[2..end]) else {
+    let Whole::Is(code) = crate::text::number(&line[2..end]) else {
         return Read::Bad;
     };
     let Whole::Is(reason) = read_reason(&line[end + 1..]) else {
@@ -300,7 +303,7 @@ fn read_opening(line: &[u8]) -> First
     if end == line.len() {
         return First::Bad;
     }
-    let Whole::Is(n) = text::number(&line[2..end]) else {
+    let Whole::Is(n) = crate::text::number(&line[2..end]) else {
         return First::Bad;
     };
     opening(n, &line[end + 1..])

@@ -3,3 +3,7 @@ pub mod Clauses
 pub mod Good
 pub mod Reading
 pub mod Adding
+pub mod Checks
+pub mod Marks
+pub mod Distinct
+pub mod Replies

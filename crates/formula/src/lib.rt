@@ -6,6 +6,8 @@ ghost use Prim.Native.Nat.{_<_};
 ghost use lib.ListN.{length};
 ghost use Rattle.formula.specs.Clauses as spec;
 
+pub mod checks;
+
 // Whether the ends of clauses never fall and the last is the number of literals.
 fn check_ends(ends: &[u32], literals: u32) -> bool
     ensures { λ r. ⌜ r ≡ spec.endsOk (now (ends .entry)) literals ⌝ }

@@ -1,8 +1,8 @@
 // Tries the three checks of a formula on small clause lists: case L, other answers, and refusals 4 to 6. A line for each: a letter (d for
 // `no_duplicates`, c for `check_clause_invariant`, f for `check_formula_invariant`), the status, and the answer's number or NONE.
-use formula_checks::Checked;
-use formula_checks::SatResult;
-use formula_checks::Tested;
+use formula::checks::Checked;
+use formula::checks::SatResult;
+use formula::checks::Tested;
 use lit::NONE;
 
 // Prints a line.
@@ -43,27 +43,27 @@ fn show_checked(x: Checked) {
 // One clause: no variable twice, both polarities of one, no literal, and another count than stated.
 fn try_duplicates() {
     let none = [0u32; 0];
-    show_tested(b'd', formula_checks::no_duplicates(&[1, 2], 2));
-    show_tested(b'd', formula_checks::no_duplicates(&[1, 3, 0], 3));
-    show_tested(b'd', formula_checks::no_duplicates(&none, 0));
-    show_tested(b'd', formula_checks::no_duplicates(&[1, 2], 1));
+    show_tested(b'd', formula::checks::no_duplicates(&[1, 2], 2));
+    show_tested(b'd', formula::checks::no_duplicates(&[1, 3, 0], 3));
+    show_tested(b'd', formula::checks::no_duplicates(&none, 0));
+    show_tested(b'd', formula::checks::no_duplicates(&[1, 2], 1));
 }
 
 // One clause over N variables: a good one, a variable of N, one variable twice, too large an N, and another count than stated.
 fn try_clauses() {
-    show_tested(b'c', formula_checks::check_clause_invariant(2, &[1, 2], 2));
-    show_tested(b'c', formula_checks::check_clause_invariant(1, &[1, 2], 2));
-    show_tested(b'c', formula_checks::check_clause_invariant(2, &[1, 1], 2));
+    show_tested(b'c', formula::checks::check_clause_invariant(2, &[1, 2], 2));
+    show_tested(b'c', formula::checks::check_clause_invariant(1, &[1, 2], 2));
+    show_tested(b'c', formula::checks::check_clause_invariant(2, &[1, 1], 2));
     show_tested(
         b'c',
-        formula_checks::check_clause_invariant(2049, &[1, 2], 1),
+        formula::checks::check_clause_invariant(2049, &[1, 2], 1),
     );
-    show_tested(b'c', formula_checks::check_clause_invariant(2, &[1, 2], 1));
+    show_tested(b'c', formula::checks::check_clause_invariant(2, &[1, 2], 1));
 }
 
 // A formula over N variables, with its counts as stated.
 fn try_formula(n: u32, lits: &[u32], ends: &[u32], literals: u32, clauses: u32) {
-    show_checked(formula_checks::check_formula_invariant(n, lits, ends, literals, clauses));
+    show_checked(formula::checks::check_formula_invariant(n, lits, ends, literals, clauses));
 }
 
 fn main() {

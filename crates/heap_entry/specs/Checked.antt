@@ -14,10 +14,10 @@ use Rattle.formula.specs.Good.{GoodClauses}
 use Rattle.trail.specs.Trail.{Trail}
 use Rattle.trail.specs.Memory.{Sized}
 use Rattle.vsids.specs.Vsids.{Vsids}
-use Rattle.entry.specs.Sizes.{both}
-use Rattle.entry.specs.Entered.{Sound}
-use Rattle.heap_calls.specs.Good.{GoodSession}
-use Rattle.heap_mode.specs.Check.{stateOk, checked-good, good-checked}
+use Rattle.session.specs.Sizes.{both}
+use Rattle.session.specs.Entered.{Sound}
+use Rattle.heap_session.specs.Good.{GoodSession}
+use Rattle.heap_session.specs.Check.{stateOk, checked-good, good-checked}
 use Rattle.heap_entry.specs.Entry.{heapLengths, heapMode}
 use Rattle.heap_entry.specs.Kept.{IsGood, fresh-good-session, kept}
 

@@ -5,9 +5,9 @@ use mathlib.Core.Path.{_≡_}
 use mathlib.Core.List.{List}
 use Rattle.choosers.specs.Heap.{heapOps}
 use Rattle.book.specs.Session.{status, leaves, Session, call}
-use Rattle.entry.specs.Asked.{Asked, asked}
-use Rattle.entry.specs.Entered as either
-use Rattle.entry.specs.Entered.{GoodMemory}
+use Rattle.session.specs.Asked.{Asked, asked}
+use Rattle.session.specs.Entered as either
+use Rattle.session.specs.Entered.{GoodMemory}
 use Rattle.heap_entry.specs.Entry.{heapMode, entered, made}
 use Rattle.heap_entry.specs.Kept.{IsGood}
 use Rattle.heap_entry.specs.Checked.{Doubles, heap-sound}

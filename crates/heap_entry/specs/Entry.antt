@@ -8,11 +8,11 @@ use Rattle.activity.specs.Step.{freshStep}
 use Rattle.vsids.specs.Vsids.{Vsids}
 use Rattle.choosers.specs.Heap.{heapOps}
 use Rattle.book.specs.Session.{Result, Session}
-use Rattle.entry.specs.Asked.{Asked}
-use Rattle.entry.specs.Mode.{Mode}
-use Rattle.entry.specs.Mode as mode
-use Rattle.heap_calls.specs.declared.HeapState.{HeapState}
-use Rattle.heap_mode.specs.Check.{stateOk}
+use Rattle.session.specs.Asked.{Asked}
+use Rattle.session.specs.Mode.{Mode}
+use Rattle.session.specs.Mode as mode
+use Rattle.heap_session.specs.declared.HeapState.{HeapState}
+use Rattle.heap_session.specs.Check.{stateOk}
 
 -- refusal 5, of the heap's slices
 abbrev pub heapLengths : ℕ → Vsids → Bool

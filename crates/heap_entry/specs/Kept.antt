@@ -12,9 +12,9 @@ use Rattle.choosers.specs.Heap.{heapOps, heap-chooser, heap-ok, ok-heap}
 use Rattle.book.specs.Calls.{Call}
 use Rattle.book.specs.Chooser.{Chooser}
 use Rattle.book.specs.Session.{Session, leaves, fresh, call}
-use Rattle.entry.specs.Kept as either
-use Rattle.heap_calls.specs.Good.{GoodSession}
-use Rattle.heap_mode.specs.Check.{fresh-session}
+use Rattle.session.specs.Kept as either
+use Rattle.heap_session.specs.Good.{GoodSession}
+use Rattle.heap_session.specs.Check.{fresh-session}
 
 -- the heap chooser over the stated number of clauses
 unfoldable pub chooser : (n m : ℕ) (lits ends : List ℕ) → n ≤ maxVars → length ends ≡ m → GoodClauses n lits ends → Chooser n m (heapOps n lits ends)

@@ -15,7 +15,7 @@ use Rattle.vsids.specs.Choice.{chose-right, chosen-highest}
 use Rattle.choosers.specs.Heap.{heapOps, nextOf}
 use Rattle.book.specs.Calls.{decide}
 use Rattle.book.specs.Session.{status, reply, leaves, need, decided, Session, call}
-use Rattle.entry.specs.Asked.{Asked, asked}
+use Rattle.session.specs.Asked.{Asked, asked}
 use Rattle.heap_entry.specs.Entry.{entered, made}
 use Rattle.heap_entry.specs.Checked.{Doubles, heap-sound}
 use Rattle.heap_entry.specs.Entered.{unchecked, bad-refused, entered-good, made-good}

@@ -10,12 +10,12 @@ use Rattle.choosers.specs.Heap.{heapOps, HeapOk, heap-ok, ok-heap}
 use Rattle.book.specs.Calls.{Call}
 use Rattle.book.specs.Session.{status, leaves, Session, call}
 use Rattle.book.specs.Claim.{startingWith, begin, run, Claim}
-use Rattle.entry.specs.Asked.{Asked, asked, Lending}
-use Rattle.entry.specs.Entered as either
-use Rattle.entry.specs.Entered.{RightScratch, Founded}
-use Rattle.entry.specs.Mode.{Mode}
-use Rattle.entry.specs.Runs as runs
-use Rattle.entry.specs.Runs.{runLent, FoundedBy, Family}
+use Rattle.session.specs.Asked.{Asked, asked, Lending}
+use Rattle.session.specs.Entered as either
+use Rattle.session.specs.Entered.{RightScratch, Founded}
+use Rattle.session.specs.Mode.{Mode}
+use Rattle.session.specs.Runs as runs
+use Rattle.session.specs.Runs.{runLent, FoundedBy, Family}
 use Rattle.heap_entry.specs.Entry.{heapMode, entered, made}
 use Rattle.heap_entry.specs.Kept.{chooser, IsGood}
 use Rattle.heap_entry.specs.Checked.{heap-sound}

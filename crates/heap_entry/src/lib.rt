@@ -3,21 +3,23 @@ ghost use mathlib.Core.Path.{_≡_};
 ghost use Rattle.formula.specs.Clauses.{clausesOk};
 ghost use Rattle.trail.specs.Memory.{trailOf};
 ghost use Rattle.vsids.specs.Vsids.{vsidsOf};
-ghost use Rattle.entry.specs.Asked.{asks};
-ghost use Rattle.entry.specs.Checks.{stateRefusal};
-ghost use Rattle.calls.specs.Entry.{Answered};
-ghost use Rattle.entry.specs.Mode.{lengthsOk};
-ghost use Rattle.heap_mode.specs.Check.{stateOk};
-ghost use Rattle.heap_calls.specs.Memory.{sessionOf};
+ghost use Rattle.session.specs.Asked.{asks};
+ghost use Rattle.session.specs.Checks.{stateRefusal};
+ghost use Rattle.session.specs.Entry.{Answered};
+ghost use Rattle.session.specs.Mode.{lengthsOk};
+ghost use Rattle.heap_session.specs.Check.{stateOk};
+ghost use Rattle.heap_session.specs.Memory.{sessionOf};
 ghost use Rattle.heap_entry.specs.Entry.{heapLengths, heapMode, entered};
-use calls::Call;
-use heap_calls::HeapAnswer;
-use heap_calls::HeapState;
-use heap_calls::refuse;
-use heap_mode::check_state;
-use heap_mode::step;
+use heap_session::HeapAnswer;
+use heap_session::HeapState;
+use heap_session::refuse;
+use heap_session::step::check_state;
+use heap_session::step::step;
 use lit::BAD_STATE;
+use session::Call;
 use vsids::VsidsState;
+
+pub mod creation;
 
 // Whether the heap's slices have length n.
 fn heap_lengths(
@@ -54,13 +56,13 @@ pub fn lengths_ok(
         (sessionOf n clauses (now (lits .entry)) (now (ends .entry)) (now (values .entry)) (now (levels .entry)) (now (reasons .entry)) (now (trail .entry)) (now (opened .entry)) (now (activity .entry)) (now (heap .entry)) (now (indices .entry)) (now (decision .entry)) s)
         scratch) ⌝ }
 {
-    if !entry::trail_lengths(n as usize, values, levels, reasons, trail, opened) {
+    if !session::entry::trail_lengths(n as usize, values, levels, reasons, trail, opened) {
         return false;
     }
     if !heap_lengths(n as usize, activity, heap, indices, decision) {
         return false;
     }
-    if !entry::clause_lengths(literals, clauses, lits, ends) {
+    if !session::entry::clause_lengths(literals, clauses, lits, ends) {
         return false;
     }
     scratch
@@ -109,7 +111,7 @@ fn refusal(
         decision,
         scratch,
     );
-    let k = entry::size_refusal(n, lengths, lits, ends);
+    let k = session::entry::size_refusal(n, lengths, lits, ends);
     if k != 0 {
         return k;
     }
@@ -161,7 +163,7 @@ pub fn enter(
         (r .reply)
         (sessionOf n clauses (now (lits .entry)) (now (ends .entry)) (now (values .exit)) (now (levels .exit)) (now (reasons .exit)) (now (trail .exit)) (now (opened .exit)) (now (activity .exit)) (now (heap .exit)) (now (indices .exit)) (now (decision .exit)) (r .state)) ⌝ }
 {
-    let scratch = entry::scratch_lengths(vars.len(), stamps.len(), order.len());
+    let scratch = session::entry::scratch_lengths(vars.len(), stamps.len(), order.len());
     let k = refusal(
         n,
         literals,

@@ -4,10 +4,10 @@ use mathlib.Core.Path.{_≡_, refl}
 use mathlib.Core.Bool.{false}
 use mathlib.Core.List.{List}
 use lib.Dec.{eqb}
-use Rattle.calls.specs.declared.Call as code
-use Rattle.calls.specs.declared.Call.the-variants as variant
-use Rattle.list_calls.specs.Memory.{cleared}
-use Rattle.list_mode.specs.Scratch.{clears}
+use Rattle.session.specs.declared.Call as code
+use Rattle.session.specs.declared.Call.the-variants as variant
+use Rattle.list_session.specs.Memory.{cleared}
+use Rattle.list_session.specs.Scratch.{clears}
 
 pub left : (c : code.Call) (k : ℕ) → eqb k 0 ≡ false → (l : List ℕ) → l ≡ cleared (clears c k) l
 left (variant.Bump v) k e l = refl

@@ -12,18 +12,18 @@ use Rattle.laws.specs.Tests.{and-left, and-right, and-both}
 use Rattle.lit.specs.Numbers.{NONE, maxVars}
 use Rattle.trail.specs.Trail.{Trail}
 use Rattle.trail.specs.Memory.{Sized}
-use Rattle.trail_tests.specs.Check.{trailOk}
+use Rattle.trail_check.specs.Check.{trailOk}
 use Rattle.trail_check.specs.Checked.{trail-right}
 use Rattle.vmtf.specs.Vmtf.{Vmtf, checkList}
 use Rattle.vmtf.specs.Check.{check-good}
 use Rattle.choosers.specs.List.{listOps, list-chooser, list-ok, ok-list}
 use Rattle.book.specs.Calls.{Call}
 use Rattle.book.specs.Session.{Session, leaves, call}
-use Rattle.entry.specs.Sizes.{both}
-use Rattle.entry.specs.Kept as either
-use Rattle.entry.specs.Entered.{Sound}
-use Rattle.list_calls.specs.Good.{GoodSession}
-use Rattle.list_mode.specs.Kept.{IsGood, fresh-good-session}
+use Rattle.session.specs.Sizes.{both}
+use Rattle.session.specs.Kept as either
+use Rattle.session.specs.Entered.{Sound}
+use Rattle.list_session.specs.Good.{GoodSession}
+use Rattle.list_session.specs.Kept.{IsGood, fresh-good-session}
 use Rattle.list_entry.specs.Entry.{listLengths, stateOk, listMode}
 
 -- what the test of the list's lengths says

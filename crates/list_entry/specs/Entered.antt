@@ -5,10 +5,10 @@ use mathlib.Core.Path.{_≡_}
 use mathlib.Core.List.{List}
 use Rattle.choosers.specs.List.{listOps}
 use Rattle.book.specs.Session.{status, leaves, Session, call}
-use Rattle.entry.specs.Asked.{Asked, asked}
-use Rattle.entry.specs.Entered as either
-use Rattle.entry.specs.Entered.{GoodMemory}
-use Rattle.list_mode.specs.Kept.{IsGood}
+use Rattle.session.specs.Asked.{Asked, asked}
+use Rattle.session.specs.Entered as either
+use Rattle.session.specs.Entered.{GoodMemory}
+use Rattle.list_session.specs.Kept.{IsGood}
 use Rattle.list_entry.specs.Entry.{listMode, entered, made}
 use Rattle.list_entry.specs.Checked.{list-sound}
 

@@ -6,14 +6,14 @@ use lib.ListN.{length}
 use lib.Dec.{eqb}
 use Rattle.lit.specs.Numbers.{NONE}
 use Rattle.trail.specs.Trail.{Trail}
-use Rattle.trail_tests.specs.Check.{trailOk}
+use Rattle.trail_check.specs.Check.{trailOk}
 use Rattle.vmtf.specs.Vmtf.{Vmtf, checkList}
 use Rattle.choosers.specs.List.{listOps}
 use Rattle.book.specs.Session.{Result, Session}
-use Rattle.entry.specs.Asked.{Asked}
-use Rattle.entry.specs.Mode.{scratchLengths, Mode}
-use Rattle.entry.specs.Mode as mode
-use Rattle.list_calls.specs.declared.ListState.{ListState}
+use Rattle.session.specs.Asked.{Asked}
+use Rattle.session.specs.Mode.{scratchLengths, Mode}
+use Rattle.session.specs.Mode as mode
+use Rattle.list_session.specs.declared.ListState.{ListState}
 
 -- refusal 5, of the list's slices
 abbrev pub listLengths : ℕ → Vmtf → Bool

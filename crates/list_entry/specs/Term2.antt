@@ -8,7 +8,7 @@ use Rattle.vmtf.specs.Order.{count}
 use Rattle.vmtf.specs.Good.{Falls, InOrder, order-is}
 use Rattle.choosers.specs.List.{listOps}
 use Rattle.book.specs.Session.{status, leaves, Session}
-use Rattle.entry.specs.Asked.{Asked}
+use Rattle.session.specs.Asked.{Asked}
 use Rattle.list_entry.specs.Entry.{entered, made}
 use Rattle.list_entry.specs.Entered.{entered-good, made-good}
 

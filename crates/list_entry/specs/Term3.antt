@@ -11,13 +11,13 @@ use Rattle.choosers.specs.List.{listOps, ListOk, list-chooser, list-ok, ok-list
 use Rattle.book.specs.Calls.{Call}
 use Rattle.book.specs.Session.{status, leaves, Session, call}
 use Rattle.book.specs.Claim.{startingWith, begin, run, Claim}
-use Rattle.entry.specs.Asked.{Asked, asked, Lending}
-use Rattle.entry.specs.Entered as either
-use Rattle.entry.specs.Entered.{RightScratch, Founded}
-use Rattle.entry.specs.Mode.{Mode, scratchLengths}
-use Rattle.entry.specs.Runs as runs
-use Rattle.entry.specs.Runs.{runLent, FoundedBy, Family}
-use Rattle.list_mode.specs.Kept.{IsGood}
+use Rattle.session.specs.Asked.{Asked, asked, Lending}
+use Rattle.session.specs.Entered as either
+use Rattle.session.specs.Entered.{RightScratch, Founded}
+use Rattle.session.specs.Mode.{Mode, scratchLengths}
+use Rattle.session.specs.Runs as runs
+use Rattle.session.specs.Runs.{runLent, FoundedBy, Family}
+use Rattle.list_session.specs.Kept.{IsGood}
 use Rattle.list_entry.specs.Entry.{listMode, entered, made}
 use Rattle.list_entry.specs.Checked.{list-sound}
 

@@ -6,20 +6,22 @@ ghost use Rattle.lit.specs.Numbers as number;
 ghost use Rattle.formula.specs.Clauses.{clausesOk};
 ghost use Rattle.trail.specs.Memory.{trailOf, Lengths};
 ghost use Rattle.vmtf.specs.Vmtf.{vmtfOf};
-ghost use Rattle.entry.specs.Asked.{asks};
-ghost use Rattle.entry.specs.Checks.{stateRefusal};
-ghost use Rattle.calls.specs.Entry.{Answered};
-ghost use Rattle.entry.specs.Mode.{lengthsOk};
-ghost use Rattle.list_calls.specs.Memory.{sessionOf, cleared};
-ghost use Rattle.list_mode.specs.Scratch.{clears};
+ghost use Rattle.session.specs.Asked.{asks};
+ghost use Rattle.session.specs.Checks.{stateRefusal};
+ghost use Rattle.session.specs.Entry.{Answered};
+ghost use Rattle.session.specs.Mode.{lengthsOk};
+ghost use Rattle.list_session.specs.Memory.{sessionOf, cleared};
+ghost use Rattle.list_session.specs.Scratch.{clears};
 ghost use Rattle.list_entry.specs.Entry.{listLengths, stateOk, listMode, entered};
-use calls::Call;
-use list_calls::ListAnswer;
-use list_calls::ListState;
-use list_calls::refuse;
-use list_mode::step;
+use list_session::ListAnswer;
+use list_session::ListState;
+use list_session::refuse;
+use list_session::step::step;
 use lit::BAD_STATE;
+use session::Call;
 use vmtf::VmtfState;
+
+pub mod creation;
 
 // Whether the list's slices have length n.
 fn list_lengths(n: usize, next: &[u32], prev: &[u32], ts: &[u64]) -> bool
@@ -49,13 +51,13 @@ pub fn lengths_ok(
         (sessionOf n clauses (now (lits .entry)) (now (values .entry)) (now (levels .entry)) (now (reasons .entry)) (now (trail .entry)) (now (opened .entry)) (now (next .entry)) (now (prev .entry)) (now (ts .entry)) s)
         scratch) ⌝ }
 {
-    if !entry::trail_lengths(n as usize, values, levels, reasons, trail, opened) {
+    if !session::entry::trail_lengths(n as usize, values, levels, reasons, trail, opened) {
         return false;
     }
     if !list_lengths(n as usize, next, prev, ts) {
         return false;
     }
-    if !entry::clause_lengths(literals, clauses, lits, ends) {
+    if !session::entry::clause_lengths(literals, clauses, lits, ends) {
         return false;
     }
     scratch
@@ -127,7 +129,7 @@ fn refusal(
         ts,
         scratch,
     );
-    let k = entry::size_refusal(n, lengths, lits, ends);
+    let k = session::entry::size_refusal(n, lengths, lits, ends);
     if k != 0 {
         return k;
     }
@@ -178,7 +180,7 @@ pub fn enter(
         (sessionOf n clauses (now (lits .entry)) (now (values .exit)) (now (levels .exit)) (now (reasons .exit)) (now (trail .exit)) (now (opened .exit)) (now (next .exit)) (now (prev .exit)) (now (ts .exit)) (r .state)) ⌝ }
     ensures { λ r. ⌜ (now (stamps .exit) ≡ cleared (clears call (r .status)) (now (stamps .entry))) × (now (order .exit) ≡ cleared (clears call (r .status)) (now (order .entry))) ⌝ }
 {
-    let scratch = entry::scratch_lengths(vars.len(), stamps.len(), order.len());
+    let scratch = session::entry::scratch_lengths(vars.len(), stamps.len(), order.len());
     let k = refusal(
         n,
         literals,

@@ -15,15 +15,15 @@ use Rattle.laws.specs.Tests.{and-false}
 use Rattle.lit.specs.Numbers.{maxVars, manyVars, badLength, badClauses}
 use Rattle.book.specs.Session.{Result, refuse, need, Session}
 use Rattle.choosers.specs.List.{listOps}
-use Rattle.calls.specs.Entry.{sizesChecked, checked, Answered}
-use Rattle.entry.specs.Asked.{Asked}
-use Rattle.entry.specs.Mode.{trailLengths, lengthsOk}
-use Rattle.entry.specs.Mode as mode
-use Rattle.list_calls.specs.declared.ListState.{ListState}
-use Rattle.list_calls.specs.Memory.{sessionOf}
+use Rattle.session.specs.Entry.{sizesChecked, checked, Answered}
+use Rattle.session.specs.Asked.{Asked}
+use Rattle.session.specs.Mode.{trailLengths, lengthsOk}
+use Rattle.session.specs.Mode as mode
+use Rattle.list_session.specs.declared.ListState.{ListState}
+use Rattle.list_session.specs.Memory.{sessionOf}
 use Rattle.list_entry.specs.Entry.{listMode, entered, made}
-use Rattle.nodes.specs.declared.Node.{Node}
-use Rattle.nodes.specs.Nodes.{nexts, prevs, tss, room, roomFor}
+use Rattle.node_entry.specs.declared.nodes.Node.{Node}
+use Rattle.node_entry.specs.Nodes.{nexts, prevs, tss, room, roomFor}
 
 -- the refusal of a list that has not one place for each of n variables
 abbrev pub sizeStatus : ℕ → ℕ

@@ -1,19 +1,22 @@
 // The entry point of a session's calls in list mode, with the list as a lent slice of nodes. It checks the memory that was lent, and asks nothing of its callers.
 ghost use mathlib.Core.Path.{_≡_};
-ghost use Rattle.nodes.specs.Nodes.{nexts, prevs, tss};
-ghost use Rattle.entry.specs.Asked.{asks};
-ghost use Rattle.calls.specs.Entry.{Answered};
-ghost use Rattle.list_calls.specs.Memory.{sessionOf, cleared};
-ghost use Rattle.list_mode.specs.Scratch.{clears};
+ghost use Rattle.node_entry.specs.Nodes.{nexts, prevs, tss};
+ghost use Rattle.session.specs.Asked.{asks};
+ghost use Rattle.session.specs.Entry.{Answered};
+ghost use Rattle.list_session.specs.Memory.{sessionOf, cleared};
+ghost use Rattle.list_session.specs.Scratch.{clears};
 ghost use Rattle.list_entry.specs.Entry.{entered};
-use calls::Call;
-use list_calls::ListAnswer;
-use list_calls::ListState;
-use nodes::Node;
-use nodes::ROOM;
-use nodes::gather;
-use nodes::room_for;
-use nodes::scatter;
+use crate::nodes::Node;
+use crate::nodes::ROOM;
+use crate::nodes::gather;
+use crate::nodes::room_for;
+use crate::nodes::scatter;
+use list_session::ListAnswer;
+use list_session::ListState;
+use session::Call;
+
+pub mod creation;
+pub mod nodes;
 
 // A call on a session that was lent. The stamps and the order are a group's scratch.
 pub fn enter(

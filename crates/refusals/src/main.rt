@@ -1,10 +1,10 @@
 // Tries refusals 4 to 14 at the entry points, in each mode where they can come, each on a small memory of its own. A line for each: a
 // letter (h and l for calls in heap and list mode, n and m for creation), the refusal that is due, the status and the reply.
 use activity::Step;
-use calls::Call;
-use heap_calls::HeapState;
-use list_calls::ListState;
+use heap_session::HeapState;
+use list_session::ListState;
 use lit::NONE;
+use session::Call;
 use trail::TrailState;
 use vmtf::VmtfState;
 use vsids::VsidsState;
@@ -76,7 +76,7 @@ fn make_list(due: u32, lent: Lent) {
     let mut ts = [0u64; 2];
     let mut counts = [0u32; 2];
     let mut indexes = [0u32; 2];
-    let a = list_fresh::fresh(
+    let a = list_entry::creation::fresh(
         lent.vars,
         lent.literals,
         1,
@@ -109,7 +109,7 @@ fn make_heap(due: u32, lent: Lent) {
     let mut heap = [NONE; 2];
     let mut indices = [NONE; 2];
     let mut decision = [true; 2];
-    let a = heap_fresh::fresh(
+    let a = heap_entry::creation::fresh(
         lent.vars,
         lent.literals,
         1,

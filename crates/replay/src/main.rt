@@ -16,7 +16,7 @@ fn one(sheet: &[u8]) {
 fn all(sheets: &[u8]) {
     let mut from = 0;
     while from < sheets.len() {
-        let end = from + text::find(&sheets[from..], 0);
+        let end = from + forms::text::find(&sheets[from..], 0);
         one(&sheets[from..end]);
         from = end + 1;
     }

@@ -14,9 +14,9 @@ use Rattle.choosers.specs.List.{listOps}
 use Rattle.book.specs.Calls.{Call, bump, decay, setDecay, insert, switchOff, decide, enqueue, learnUnit, goBack, bumpReason, group}
 use Rattle.book.specs.Chooser.{Next, chose, nothing, stuck, Operations}
 use Rattle.book.specs.Session.{Result, done, refuse, status, reply, leaves, need, Session, tuned, decided, call}
-use Rattle.calls.specs.Entry.{replyNumber}
-use Rattle.text.specs.Text.{tab, newline, digits}
-use Rattle.text.specs.Laws.{digits-two, digits-five, digits-room}
+use Rattle.session.specs.Entry.{replyNumber}
+use Rattle.forms.specs.Text.{tab, newline, digits}
+use Rattle.forms.specs.TextLaws.{digits-two, digits-five, digits-room}
 use Rattle.forms.specs.Forms.{Opening, callIn, codesIn, firstIn}
 use Rattle.sheet.specs.Sheet.{replyText, answerLine, ClauseList, added, answered}
 use Rattle.sheet.specs.Turns.{answered-turns}

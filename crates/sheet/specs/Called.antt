@@ -7,9 +7,9 @@ use Rattle.lit.specs.Numbers.{NONE, badLine}
 use Rattle.book.specs.Calls.{group}
 use Rattle.book.specs.Chooser.{Operations}
 use Rattle.book.specs.Session.{Session, call}
-use Rattle.calls.specs.declared.Call as code
-use Rattle.calls.specs.Calls.{callOf}
-use Rattle.calls.specs.Entry.{Answered}
+use Rattle.session.specs.declared.Call as code
+use Rattle.session.specs.Calls.{callOf}
+use Rattle.session.specs.Entry.{Answered}
 use Rattle.forms.specs.declared.Read as read
 use Rattle.forms.specs.declared.Read.the-variants as a-call
 use Rattle.forms.specs.declared.Count as count

@@ -17,7 +17,7 @@ use Rattle.formula.specs.Clauses.{clauseFits, varsBelow}
 use Rattle.formula.specs.Good.{GoodClauses, clauses-facts}
 use Rattle.formula.specs.Adding.{withEnd, fits-added}
 use Rattle.book.specs.Session.{status, reply, leaves, need}
-use Rattle.text.specs.Text.{newline, find}
+use Rattle.forms.specs.Text.{newline, find}
 use Rattle.forms.specs.Forms.{Mode, vsids, vmtf, beginsClause, codesIn, given, numbers}
 use Rattle.forms.specs.Behind.{behind}
 use Rattle.forms.specs.Lines.{codes-none, codes-behind}

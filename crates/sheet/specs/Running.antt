@@ -8,7 +8,7 @@ use lib.ListN.{length, drop, take}
 use Rattle.lit.specs.Numbers.{maxSheet, maxClauses, maxLiterals, answerRoom}
 use Rattle.formula.specs.Good.{GoodClauses}
 use Rattle.book.specs.Session.{Result, status, leaves}
-use Rattle.text.specs.Text.{newline, lines, occurs, find, written}
+use Rattle.forms.specs.Text.{newline, lines, occurs, find, written}
 use Rattle.forms.specs.Forms.{Mode, beginsClause}
 use Rattle.sheet.specs.declared.Place.{Place}
 use Rattle.sheet.specs.declared.clauses.Added.{Added}

@@ -9,8 +9,8 @@ use Rattle.lit.specs.Numbers.{answerRoom}
 use Rattle.book.specs.Calls.{Call}
 use Rattle.book.specs.Chooser.{Operations}
 use Rattle.book.specs.Session.{Result, status, reply, leaves, Session, call}
-use Rattle.calls.specs.Entry.{Answered}
-use Rattle.text.specs.Text.{written}
+use Rattle.session.specs.Entry.{Answered}
+use Rattle.forms.specs.Text.{written}
 use Rattle.forms.specs.Forms.{callIn}
 use Rattle.sheet.specs.declared.Place.{Place}
 use Rattle.sheet.specs.Sheet.{answerLine}

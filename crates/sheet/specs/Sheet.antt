@@ -14,7 +14,7 @@ use Rattle.book.specs.Calls.{Call, Line}
 use Rattle.book.specs.Chooser.{Operations}
 use Rattle.book.specs.Session.{Result, done, refuse, status, leaves, need}
 use Rattle.book.specs.Claim.{log, begin, run}
-use Rattle.text.specs.Text.{tab, newline, lines, occurs, digits}
+use Rattle.forms.specs.Text.{tab, newline, lines, occurs, digits}
 use Rattle.forms.specs.Forms.{Mode, vsids, vmtf, Opening, callIn, beginsClause, codesIn, firstIn}
 
 -- 'else `-`, also for "none" and refusals'

@@ -8,8 +8,8 @@ use lib.Seq.{drop-drop}
 use Rattle.laws.specs.Parts.{to-end}
 use Rattle.lit.specs.Numbers.{answerRoom}
 use Rattle.book.specs.Session.{status, reply, leaves}
-use Rattle.text.specs.Text.{newline, lines, occurs, find}
-use Rattle.text.specs.Laws.{occurs-found, occurs-next, lines-next, lines-end, written-append}
+use Rattle.forms.specs.Text.{newline, lines, occurs, find}
+use Rattle.forms.specs.TextLaws.{occurs-found, occurs-next, lines-next, lines-end, written-append}
 use Rattle.sheet.specs.declared.Place.{Place}
 use Rattle.sheet.specs.Sheet.{answerLine}
 use Rattle.sheet.specs.Stages.{Stage, meets, turn, answers}

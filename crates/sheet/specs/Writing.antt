@@ -8,8 +8,8 @@ use native.Mathlib.Omega.{arith}
 use lib.ListN.{length, set, length-append}
 use lib.Dec.{eqb}
 use Rattle.lit.specs.Numbers.{NONE}
-use Rattle.text.specs.Text.{tab, newline, digits, written}
-use Rattle.text.specs.Laws.{written-append, written-length}
+use Rattle.forms.specs.Text.{tab, newline, digits, written}
+use Rattle.forms.specs.TextLaws.{written-append, written-length}
 use Rattle.sheet.specs.Sheet.{replyText, answerLine}
 
 -- the buffer r and the place k are what the bytes a leave, written into the buffer l from a place on

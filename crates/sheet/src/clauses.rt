@@ -11,10 +11,10 @@ use crate::Place;
 use crate::answer;
 use crate::behind;
 use forms::Count;
+use forms::text::NEWLINE;
 use lit::BAD_CLAUSES;
 use lit::BAD_LINE;
 use lit::NONE;
-use text::NEWLINE;
 
 // The status of a clause line, and the counts of the clause list behind it.
 pub struct Added {
@@ -113,7 +113,7 @@ fn clause_step(
 {
     let p = s.place;
     let from = p.from;
-    let end = from + text::find(&sheet[from..], NEWLINE);
+    let end = from + forms::text::find(&sheet[from..], NEWLINE);
     let a = clause_line(&sheet[from..end], n, lits, ends, s.literals, s.clauses);
     let at = answer(out, p.at, p.line, a.status, NONE);
     let q = behind(p, end, at);

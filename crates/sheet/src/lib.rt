@@ -6,9 +6,9 @@ ghost use Rattle.lit.specs.Numbers.{maxSheet};
 ghost use Rattle.sheet.specs.Sheet.{answerLine};
 ghost use Rattle.sheet.specs.Writing.{replyOf, field, ending, Wrote};
 ghost use Rattle.sheet.specs.Running.{after};
+use forms::text::NEWLINE;
+use forms::text::TAB;
 use lit::NONE;
-use text::NEWLINE;
-use text::TAB;
 
 pub mod clauses;
 
@@ -17,7 +17,7 @@ fn put_field(out: &mut [u8], at: usize, v: u32) -> usize
     requires { ⌜ at + length (field v) ≤ length (now out) ⌝ }
     ensures { λ r. ⌜ Wrote at (field v) (now (out .entry)) (now (out .exit)) r ⌝ }
 {
-    let k = text::put_number(out, at, v);
+    let k = forms::text::put_number(out, at, v);
     out[k] = TAB;
     k + 1
 }
@@ -32,7 +32,7 @@ fn put_ending(out: &mut [u8], at: usize, reply: u32) -> usize
         out[at + 1] = NEWLINE;
         return at + 2;
     }
-    let k = text::put_number(out, at, reply);
+    let k = forms::text::put_number(out, at, reply);
     out[k] = NEWLINE;
     k + 1
 }

@@ -10,6 +10,8 @@ ghost use Rattle.trail.specs.Trail as spec;
 ghost use Rattle.trail.specs.Memory.{trailOf, Lengths, RoomFor};
 use lit::NONE;
 
+pub mod back;
+
 // How many places of the trail and of the opened levels are in use, and `curr_i`.
 pub struct TrailState {
     pub len: u32,

@@ -13,7 +13,7 @@ use Rattle.laws.specs.Tests.{and-left, and-right, cond-elim}
 use Rattle.laws.specs.Every.{Passed, passed-more}
 use Rattle.laws.specs.Some.{count-below}
 use Rattle.trail.specs.Good.{notAbove}
-use Rattle.trail_tests.specs.Check.{climb, levelIs}
+use Rattle.trail_check.specs.Check.{climb, levelIs}
 use Rattle.trail_check.specs.Checked.{Openings}
 
 -- r is the number of opened levels not above place i: those before it are not above, the others are

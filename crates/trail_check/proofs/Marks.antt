@@ -13,7 +13,7 @@ use Rattle.laws.specs.Lists.{set-cases}
 use Rattle.laws.specs.Every.{Passed, passed-more}
 use Rattle.laws.specs.Some.{some, some-more, every-same}
 use Rattle.lit.specs.Lits.{index, litSat}
-use Rattle.trail_tests.specs.Check.{stands, Marked, literalOk, placeOk, heldAt, heldOk, coveredAt, coveredOk}
+use Rattle.trail_check.specs.Check.{stands, Marked, literalOk, placeOk, heldAt, heldOk, coveredAt, coveredOk}
 
 -- the first i places pass, and their variables are marked
 pub record Marking (values trail : List ℕ) (len : ℕ) (marks₀ : List Bool) (i : ℕ) (marks : List Bool) : Type 0 where

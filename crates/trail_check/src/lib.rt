@@ -5,18 +5,20 @@ ghost use Prim.Native.Nat.{ℕ, _≤_, _<_};
 ghost use lib.ListN.{length, getD};
 ghost use Rattle.lit.specs.Numbers as number;
 ghost use Rattle.lit.specs.Lits as lits;
-ghost use Rattle.trail_tests.specs.Check as spec;
-ghost use Rattle.trail_tests.specs.Check.{Marked};
+ghost use Rattle.trail_check.specs.Check as spec;
+ghost use Rattle.trail_check.specs.Check.{Marked};
 ghost use Rattle.trail.specs.Memory.{trailOf, Lengths};
+use crate::facts::counts_ok;
+use crate::facts::covered;
+use crate::facts::level_at;
+use crate::facts::level_ok;
+use crate::facts::literal_ok;
+use crate::facts::reason_ok;
+use crate::facts::unused_ok;
+use crate::facts::values_ok;
 use trail::TrailState;
-use trail_tests::counts_ok;
-use trail_tests::covered;
-use trail_tests::level_at;
-use trail_tests::level_ok;
-use trail_tests::literal_ok;
-use trail_tests::reason_ok;
-use trail_tests::unused_ok;
-use trail_tests::values_ok;
+
+pub mod facts;
 
 // Whether every variable's reason is NONE, or a clause number and the variable assigned.
 fn reasons_ok(m: u32, values: &[u8], reasons: &[u32]) -> bool

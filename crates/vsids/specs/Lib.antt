@@ -6,3 +6,4 @@ pub mod Scoring
 pub mod Kept
 pub mod Choice
 pub mod Check
+pub mod Untouched

@@ -19,6 +19,8 @@ ghost use Rattle.vsids.specs.Vsids as spec;
 ghost use Rattle.vsids.specs.Vsids.{vsidsOf, foundOf};
 ghost use Rattle.vsids.specs.declared.VsidsState.{VsidsState};
 
+pub mod check;
+
 // How many members the heap has, and the step.
 pub struct VsidsState {
     pub len: u32,
@@ -103,7 +105,7 @@ pub fn get_next(
     let step = s.step;
     let mut len = s.len;
     while len > 0 {
-        let v = heap_members::remove_min(activity, heap, indices, len);
+        let v = heap::members::remove_min(activity, heap, indices, len);
         len -= 1;
         if is_open(values, decision, v) {
             return Next::Chose(v, VsidsState { len, step });
@@ -144,8 +146,8 @@ pub fn bump_variable(
     ensures { λ r. ⌜ ((d : List Bool) → vsidsOf (now (activity .exit)) (now (heap .exit)) (now (indices .exit)) d r ≡ spec.bumpVariable var (vsidsOf (now (activity .entry)) (now (heap .entry)) (now (indices .entry)) d s)) ⌝ }
 {
     let raised = add_step(activity, s, var);
-    if heap_members::in_heap(indices, var) {
-        heap_members::decrease(activity, heap, indices, var);
+    if heap::members::in_heap(indices, var) {
+        heap::members::decrease(activity, heap, indices, var);
     }
     raised
 }
@@ -188,8 +190,8 @@ pub fn insert(
 {
     let step = s.step;
     let mut len = s.len;
-    if !heap_members::in_heap(indices, var) && decision[var as usize] {
-        heap_members::insert(activity, heap, indices, len, var);
+    if !heap::members::in_heap(indices, var) && decision[var as usize] {
+        heap::members::insert(activity, heap, indices, len, var);
         len += 1;
     }
     VsidsState { len, step }

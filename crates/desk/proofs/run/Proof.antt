@@ -2,8 +2,8 @@
 use Prim.Native.Nat.{_<_, _≤_}
 use mathlib.Core.Path.{sym, _∙_}
 use native.Mathlib.Omega.{arith}
-use Rattle.text.specs.Text.{newline}
-use Rattle.text.specs.Laws.{occurs-length}
+use Rattle.forms.specs.Text.{newline}
+use Rattle.forms.specs.TextLaws.{occurs-length}
 use Rattle.desk.specs.Ran.{gave-long, gave-no-room, gave-answers, gave-none, start-room, few-bytes}
 use borrow.Author.Needs.{needs}
 use Rattle.desk.proofs.run.Statement.{statement}

@@ -5,8 +5,8 @@ use mathlib.Core.List.{List}
 use borrow.Author.Needs.{needs}
 use borrow.Author.Tests.{not-true, not-false}
 use lib.ListN.{length}
-use Rattle.text.specs.Text.{number}
-use Rattle.text.specs.Read.{wholeOf}
+use Rattle.forms.specs.Text.{number}
+use Rattle.forms.specs.TextRead.{wholeOf}
 use Rattle.forms.specs.Forms.{one}
 use Rattle.forms.specs.Behind.{tabbed-long, untabbed}
 use Rattle.forms.specs.Laws.{number-tab}

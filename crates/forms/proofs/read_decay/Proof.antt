@@ -4,7 +4,7 @@ use mathlib.Core.Path.{refl, sym, _∙_}
 use native.Mathlib.Omega.{arith}
 use borrow.Author.Tests.{not-true, not-false}
 use lib.ListN.{drop}
-use Rattle.text.specs.Text.{pattern}
+use Rattle.forms.specs.Text.{pattern}
 use Rattle.forms.specs.Forms.{setsDecay, callWith, decayIn}
 use Rattle.forms.specs.Behind.{tabbed-long, untabbed}
 use Rattle.laws.specs.Parts.{to-end}

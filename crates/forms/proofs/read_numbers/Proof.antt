@@ -5,8 +5,8 @@ use mathlib.Core.Option.{some}
 use native.Mathlib.Omega.{arith}
 use borrow.Author.Needs.{needs}
 use lib.ListN.{length, take, drop, length-drop}
-use Rattle.text.specs.Text.{tab, find, number}
-use Rattle.text.specs.Laws.{find-length}
+use Rattle.forms.specs.Text.{tab, find, number}
+use Rattle.forms.specs.TextLaws.{find-length}
 use Rattle.forms.specs.Counting.{SoFar, so-far-none, count-bad, count-last, count-next}
 use Rattle.forms.specs.Told.{field-is, field-bad}
 use Rattle.forms.proofs.read_numbers.Statement.{statement}

@@ -3,7 +3,7 @@ use borrow.Author.Needs.{needs}
 use mathlib.Core.Path.{refl, sym, _∙_}
 use native.Mathlib.Omega.{arith}
 use lib.ListN.{drop}
-use Rattle.text.specs.Text.{number}
+use Rattle.forms.specs.Text.{number}
 use Rattle.forms.specs.Forms.{given, one}
 use Rattle.forms.specs.Behind.{behind}
 use Rattle.forms.specs.Told.{whole-is, whole-bad}

@@ -4,7 +4,7 @@ use Prim.Native.Nat.{_≤_, _<_, _+_, _-_}
 use mathlib.Core.Path.{sym, ap, _∙_}
 use native.Mathlib.Omega.{arith}
 use lib.ListN.{length, take, drop}
-use Rattle.text.specs.Text.{number}
+use Rattle.forms.specs.Text.{number}
 use Rattle.forms.specs.Forms.{given, openingIn}
 use Rattle.forms.specs.Read.{firstOf}
 use Rattle.laws.specs.Parts.{to-end}

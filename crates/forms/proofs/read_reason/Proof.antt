@@ -2,7 +2,7 @@
 use mathlib.Core.Path.{sym, _∙_}
 use borrow.Author.Needs.{needs}
 use borrow.Author.Tests.{eq-eqb, ne-eqb}
-use Rattle.text.specs.Text.{number}
+use Rattle.forms.specs.Text.{number}
 use Rattle.forms.specs.Forms.{reasonIn}
 use Rattle.forms.specs.Told.{whole-is, whole-bad}
 use Rattle.forms.proofs.read_reason.Statement.{statement}

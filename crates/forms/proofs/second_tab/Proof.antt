@@ -6,8 +6,8 @@ use mathlib.Core.List.{List}
 use native.Mathlib.Omega.{arith}
 use borrow.Author.Tests.{not-true, not-false}
 use lib.ListN.{length, drop, length-drop}
-use Rattle.text.specs.Text.{tab, find}
-use Rattle.text.specs.Laws.{find-length}
+use Rattle.forms.specs.Text.{tab, find}
+use Rattle.forms.specs.TextLaws.{find-length}
 use Rattle.forms.specs.Behind.{tabbed-long, secondTab}
 use Rattle.laws.specs.Parts.{to-end}
 use Rattle.forms.proofs.second_tab.Statement.{statement}

@@ -1,11 +1,11 @@
 -- `heap_entry::enter` meets its contract: a refusal is the answer; without one the memory is good, and the step answers.
 use mathlib.Core.Path.{refl, sym, _∙_}
 use borrow.Author.Needs.{needs}
-use Rattle.entry.specs.Asked.{asks}
-use Rattle.entry.specs.Checks.{refused, accepted}
-use Rattle.entry.specs.Mode.{entered}
-use Rattle.entry.specs.Entered.{admitted}
-use Rattle.heap_calls.specs.Memory.{sessionOf}
+use Rattle.session.specs.Asked.{asks}
+use Rattle.session.specs.Checks.{refused, accepted}
+use Rattle.session.specs.Mode.{entered}
+use Rattle.session.specs.Entered.{admitted}
+use Rattle.heap_session.specs.Memory.{sessionOf}
 use Rattle.heap_entry.specs.Entry.{heapMode}
 use Rattle.heap_entry.specs.Checked.{heap-sound}
 use Rattle.heap_entry.proofs.enter.Statement.{statement}

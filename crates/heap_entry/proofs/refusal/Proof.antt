@@ -4,9 +4,9 @@ use borrow.Author.Needs.{needs}
 use borrow.Author.Tests.{not-true, not-false}
 use Rattle.vsids.specs.Vsids.{vsidsOf}
 use Rattle.book.specs.Session.{need}
-use Rattle.calls.specs.Entry.{checked}
-use Rattle.entry.specs.Checks.{size-refused, size-passed, size-accepted}
-use Rattle.entry.specs.Sizes.{sizes-right}
+use Rattle.session.specs.Entry.{checked}
+use Rattle.session.specs.Checks.{size-refused, size-passed, size-accepted}
+use Rattle.session.specs.Sizes.{sizes-right}
 use Rattle.heap_entry.specs.Checked.{heap-sized}
 use Rattle.heap_entry.proofs.refusal.Statement.{statement}
 use Rattle.heap_entry.proofs.refusal.Tie as tie

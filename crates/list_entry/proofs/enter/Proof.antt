@@ -2,11 +2,11 @@
 use mathlib.Core.Path.{refl, sym, _∙_}
 use borrow.Author.Needs.{needs}
 use borrow.Author.Tests.{ne-eqb}
-use Rattle.entry.specs.Asked.{asks}
-use Rattle.entry.specs.Checks.{refused, accepted}
-use Rattle.entry.specs.Mode.{entered}
-use Rattle.entry.specs.Entered.{admitted}
-use Rattle.list_calls.specs.Memory.{sessionOf}
+use Rattle.session.specs.Asked.{asks}
+use Rattle.session.specs.Checks.{refused, accepted}
+use Rattle.session.specs.Mode.{entered}
+use Rattle.session.specs.Entered.{admitted}
+use Rattle.list_session.specs.Memory.{sessionOf}
 use Rattle.list_entry.specs.Entry.{listMode}
 use Rattle.list_entry.specs.Checked.{list-sound}
 use Rattle.list_entry.proofs.Entering.{left}

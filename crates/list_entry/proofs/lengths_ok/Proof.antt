@@ -2,7 +2,7 @@
 use mathlib.Core.Path.{sym, _∙_}
 use borrow.Author.Needs.{needs}
 use borrow.Author.Tests.{not-true, not-false}
-use Rattle.entry.specs.Mode.{lengthsOk}
+use Rattle.session.specs.Mode.{lengthsOk}
 use Rattle.list_entry.proofs.lengths_ok.Statement.{statement}
 use Rattle.list_entry.proofs.lengths_ok.Tie as tie
 

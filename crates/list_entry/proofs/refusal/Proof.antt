@@ -4,9 +4,9 @@ use borrow.Author.Needs.{needs}
 use borrow.Author.Tests.{not-true, not-false}
 use Rattle.vmtf.specs.Vmtf.{vmtfOf}
 use Rattle.book.specs.Session.{need}
-use Rattle.calls.specs.Entry.{checked}
-use Rattle.entry.specs.Checks.{size-refused, size-passed, size-accepted}
-use Rattle.entry.specs.Sizes.{sizes-right}
+use Rattle.session.specs.Entry.{checked}
+use Rattle.session.specs.Checks.{size-refused, size-passed, size-accepted}
+use Rattle.session.specs.Sizes.{sizes-right}
 use Rattle.list_entry.specs.Checked.{list-sized}
 use Rattle.list_entry.proofs.refusal.Statement.{statement}
 use Rattle.list_entry.proofs.refusal.Tie as tie

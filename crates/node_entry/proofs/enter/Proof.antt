@@ -43,44 +43,44 @@ use denote.Triple.Statement.{Contract, Triple}
 use denote.Triple.Table.{entered as at-entry, cited}
 use denote.Triple.Walked.{Stays, stay-dropped, gave-slice, walkOf, goes-dropped, goes-gave-slice, Walks, ends-at, walked, walk-meets}
 use denote.Exit.{yes}
-use Rattle.calls.specs.Entry.{Answered}
-use Rattle.calls.specs.declared.Call.{Call}
-use Rattle.calls.proofs.Call as TC
-use Rattle.calls.proofs.Call.Laws as TC′
+use Rattle.session.specs.Entry.{Answered}
+use Rattle.session.specs.declared.Call.{Call}
+use Rattle.session.proofs.Call as TC
+use Rattle.session.proofs.Call.Laws as TC′
 use Rattle.book.specs.Session.{Result, Session}
 use Rattle.choosers.specs.List.{listOps}
-use Rattle.entry.specs.Asked.{asks}
-use Rattle.list_calls.specs.declared.ListState.{ListState}
-use Rattle.list_calls.proofs.ListState as TS
-use Rattle.list_calls.proofs.ListState.Laws as TS′
-use Rattle.list_calls.specs.Memory.{sessionOf, cleared}
-use Rattle.list_mode.specs.Scratch.{clears}
+use Rattle.session.specs.Asked.{asks}
+use Rattle.list_session.specs.declared.ListState.{ListState}
+use Rattle.list_session.proofs.ListState as TS
+use Rattle.list_session.proofs.ListState.Laws as TS′
+use Rattle.list_session.specs.Memory.{sessionOf, cleared}
+use Rattle.list_session.specs.Scratch.{clears}
 use Rattle.list_entry.specs.Entry.{entered}
 use Rattle.node_entry.specs.Fields.{entered-out, first-for-all}
-use Rattle.nodes.specs.Nodes.{nexts, prevs, tss, room, roomFor}
-use Rattle.nodes.specs.declared.Node.{Node}
-use Rattle.nodes.proofs.Node as TN
-use Rattle.nodes.proofs.LocalArray.{fills-local, closes-local, Back as Back′}
-use Rattle.nodes.proofs.Locals.{full, empty, heldAll, diesAll, frees-all}
-use Rattle.nodes.proofs.Lending.{lends-cells, cells-come-back}
-use Rattle.nodes.proofs.Packing.{apart, fapart, fuse, knowing}
-use Rattle.nodes.proofs.Reborrow.{reborrows, fronts-of}
-use Rattle.nodes.proofs.Rooms.{zeros, zeros-typed₄, zeros-typed₈, long, room₄, room₈, fronts}
-use Rattle.nodes.proofs.Sizing.{Sizing, sizes}
-use Rattle.nodes.proofs.Gathering.{Gathering, gathers}
-use Rattle.nodes.proofs.Scattering.{Scattering, scatters}
-use Rattle.nodes.proofs.room_for.Symbol as room-def
-use Rattle.nodes.proofs.room_for.Symbol.{name as #nodes·room-for}
-use Rattle.nodes.proofs.room_for.Met as room-thm
-use Rattle.nodes.proofs.gather.Symbol as gather-def
-use Rattle.nodes.proofs.gather.Symbol.{name as #nodes·gather}
-use Rattle.nodes.proofs.gather.Met as gather-thm
-use Rattle.nodes.proofs.scatter.Symbol as scatter-def
-use Rattle.nodes.proofs.scatter.Symbol.{name as #nodes·scatter}
-use Rattle.nodes.proofs.scatter.Met as scatter-thm
-use Rattle.list_calls.specs.declared.ListAnswer.{ListAnswer}
-use Rattle.list_calls.proofs.ListAnswer as TA
-use Rattle.list_calls.proofs.ListAnswer.Laws as TA′
+use Rattle.node_entry.specs.Nodes.{nexts, prevs, tss, room, roomFor}
+use Rattle.node_entry.specs.declared.nodes.Node.{Node}
+use Rattle.node_entry.proofs.nodes.Node as TN
+use Rattle.node_entry.proofs.nodes.LocalArray.{fills-local, closes-local, Back as Back′}
+use Rattle.node_entry.proofs.nodes.Locals.{full, empty, heldAll, diesAll, frees-all}
+use Rattle.node_entry.proofs.nodes.Lending.{lends-cells, cells-come-back}
+use Rattle.node_entry.proofs.nodes.Packing.{apart, fapart, fuse, knowing}
+use Rattle.node_entry.proofs.nodes.Reborrow.{reborrows, fronts-of}
+use Rattle.node_entry.proofs.nodes.Rooms.{zeros, zeros-typed₄, zeros-typed₈, long, room₄, room₈, fronts}
+use Rattle.node_entry.proofs.nodes.Sizing.{Sizing, sizes}
+use Rattle.node_entry.proofs.nodes.Gathering.{Gathering, gathers}
+use Rattle.node_entry.proofs.nodes.Scattering.{Scattering, scatters}
+use Rattle.node_entry.proofs.nodes.room_for.Symbol as room-def
+use Rattle.node_entry.proofs.nodes.room_for.Symbol.{name as #nodes·room-for}
+use Rattle.node_entry.proofs.nodes.room_for.Met as room-thm
+use Rattle.node_entry.proofs.nodes.gather.Symbol as gather-def
+use Rattle.node_entry.proofs.nodes.gather.Symbol.{name as #nodes·gather}
+use Rattle.node_entry.proofs.nodes.gather.Met as gather-thm
+use Rattle.node_entry.proofs.nodes.scatter.Symbol as scatter-def
+use Rattle.node_entry.proofs.nodes.scatter.Symbol.{name as #nodes·scatter}
+use Rattle.node_entry.proofs.nodes.scatter.Met as scatter-thm
+use Rattle.list_session.specs.declared.ListAnswer.{ListAnswer}
+use Rattle.list_session.proofs.ListAnswer as TA
+use Rattle.list_session.proofs.ListAnswer.Laws as TA′
 use Rattle.list_entry.proofs.enter as core
 use Rattle.list_entry.proofs.enter.Symbol as core-def
 use Rattle.list_entry.proofs.enter.Symbol.{name as #core}

@@ -4,8 +4,8 @@ use mathlib.Core.Path.{_≡_, ap}
 use mathlib.Core.List.{List}
 use native.Mathlib.Omega.{arith}
 use lib.ListN.{length, take, drop, length-drop}
-use Rattle.text.specs.Text.{find}
-use Rattle.text.specs.Laws.{find-length}
+use Rattle.forms.specs.Text.{find}
+use Rattle.forms.specs.TextLaws.{find-length}
 use Rattle.laws.specs.Parts.{to-end}
 use borrow.Author.Needs.{needs}
 use Rattle.replay.proofs.all.Statement.{statement}

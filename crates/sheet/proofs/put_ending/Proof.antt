@@ -5,7 +5,7 @@ use mathlib.Core.Path.{refl}
 use mathlib.Core.List.{[], _∷_}
 use borrow.Author.Tests.{eq-eqb, ne-eqb}
 use Rattle.lit.specs.Numbers.{NONE}
-use Rattle.text.specs.Text.{newline, digits, written}
+use Rattle.forms.specs.Text.{newline, digits, written}
 use Rattle.sheet.specs.Writing.{ending, put-one, same-room}
 use borrow.Author.Needs.{needs}
 use Rattle.sheet.proofs.put_ending.Statement.{statement}

@@ -2,7 +2,7 @@
 use native.Mathlib.Omega.{arith}
 use lib.ListN.{length-append}
 use mathlib.Core.List.{[], _∷_}
-use Rattle.text.specs.Text.{tab, digits}
+use Rattle.forms.specs.Text.{tab, digits}
 use Rattle.sheet.specs.Writing.{field, put-one, same-room}
 use borrow.Author.Needs.{needs}
 use Rattle.sheet.proofs.put_field.Statement.{statement}

@@ -7,7 +7,7 @@ use borrow.Author.Tests.{eq-eqb, ne-eqb}
 use lib.ListN.{length}
 use Rattle.laws.specs.Every.{passed-none, passed-all, passed-fails}
 use Rattle.trail.specs.Good.{notAbove}
-use Rattle.trail_tests.specs.Check.{levelsOk}
+use Rattle.trail_check.specs.Check.{levelsOk}
 use Rattle.trail_check.specs.Checked.{Openings, opened-right}
 use Rattle.trail_check.proofs.Climb.{Climbing, climbed, climb-more}
 use Rattle.trail_check.proofs.levels_ok.Statement.{statement}

@@ -5,7 +5,7 @@ use native.Mathlib.Omega.{arith}
 use borrow.Author.Needs.{needs}
 use borrow.Author.Tests.{not-true, not-false}
 use Rattle.laws.specs.Every.{Passed, passed-none, passed-more, passed-all, passed-fails}
-use Rattle.trail_tests.specs.Check.{levelOk, openedOk}
+use Rattle.trail_check.specs.Check.{levelOk, openedOk}
 use Rattle.trail_check.proofs.opened_ok.Statement.{statement}
 use Rattle.trail_check.proofs.opened_ok.Tie as tie
 

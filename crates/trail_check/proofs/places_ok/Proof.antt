@@ -6,7 +6,7 @@ use native.Mathlib.Omega.{arith}
 use borrow.Author.Needs.{needs}
 use borrow.Author.Tests.{not-true, not-false}
 use Rattle.laws.specs.Every.{passed-none, passed-all, passed-fails}
-use Rattle.trail_tests.specs.Check.{placeOk, placesOk}
+use Rattle.trail_check.specs.Check.{placeOk, placesOk}
 use Rattle.trail_check.proofs.Marks.{Marking, at-place, place-var, mark-place}
 use Rattle.trail_check.proofs.places_ok.Statement.{statement}
 use Rattle.trail_check.proofs.places_ok.Tie as tie

@@ -6,7 +6,7 @@ use borrow.Author.Needs.{needs}
 use lib.ListN.{length}
 use borrow.Author.Tests.{not-true, not-false}
 use Rattle.laws.specs.Every.{Passed, passed-none, passed-more, passed-all, passed-fails}
-use Rattle.trail_tests.specs.Check.{reasonOk, reasonsOk}
+use Rattle.trail_check.specs.Check.{reasonOk, reasonsOk}
 use Rattle.trail_check.proofs.reasons_ok.Statement.{statement}
 use Rattle.trail_check.proofs.reasons_ok.Tie as tie
 

@@ -1,0 +1,214 @@
+// The lines of a call sheet behind the first: the clause lines, then the session's, in the mode that the first line names.
+ghost use mathlib.Core.Path.{_≡_};
+ghost use mathlib.Core.Bool.{Bool, true};
+ghost use mathlib.Core.List.{[]};
+ghost use Prim.Native.Nat.{_≤_};
+ghost use lib.ListN.{length};
+ghost use Rattle.lit.specs.Numbers as number;
+ghost use Rattle.formula.specs.Good.{GoodClauses};
+ghost use Rattle.sheet.specs.Stages.{reading, opened};
+ghost use Rattle.sheet.specs.Running.{Room, Holds, Ended};
+ghost use Rattle.desk.specs.Behind.{modeOf, fewVars};
+use lit::MAX_CLAUSES;
+use lit::MAX_LITERALS;
+use lit::MAX_VARS;
+use lit::NONE;
+use sheet::Place;
+use sheet::clauses::Section;
+use sheet::clauses::clause_lines;
+use sheet::clauses::next_is_clause;
+
+// The session's lines, in heap or in list mode.
+fn session_lines(
+    sheet: &[u8],
+    out: &mut [u8],
+    positions: &mut [u32],
+    heap: bool,
+    n: u32,
+    lits: &[u32],
+    ends: &[u32],
+    p: Place,
+) -> usize
+    requires { ⌜ Room (now sheet) p (now out) × (n ≤ number.maxVars) × GoodClauses n (now lits) (now ends) × (heap ≡ true → n ≤ length (now positions)) ⌝ }
+    ensures { λ r. ⌜ Ended (now (sheet .entry)) p (opened (modeOf heap) n (now (lits .entry)) (now (ends .entry))) (now (out .entry)) r (now (out .exit)) ⌝ }
+{
+    if heap {
+        return heap_sheet::rest(sheet, out, positions, n, lits, ends, p);
+    }
+    list_sheet::rest(sheet, out, n, lits, ends, p)
+}
+
+// How many variables are few in heap mode, and in list mode.
+fn few_vars(heap: bool) -> u32
+    ensures { λ r. ⌜ r ≡ fewVars heap ⌝ }
+{
+    if heap {
+        return heap_sheet::FEW;
+    }
+    list_sheet::FEW
+}
+
+// The same with few variables. The shortest runs have this way to themselves, with none of the long arrays of a session.
+fn few_lines(
+    sheet: &[u8],
+    out: &mut [u8],
+    positions: &mut [u32],
+    heap: bool,
+    n: u32,
+    lits: &[u32],
+    ends: &[u32],
+    p: Place,
+) -> usize
+    requires { ⌜ Room (now sheet) p (now out) × (n ≤ fewVars heap) × GoodClauses n (now lits) (now ends) × (heap ≡ true → n ≤ length (now positions)) ⌝ }
+    ensures { λ r. ⌜ Ended (now (sheet .entry)) p (opened (modeOf heap) n (now (lits .entry)) (now (ends .entry))) (now (out .entry)) r (now (out .exit)) ⌝ }
+{
+    if heap {
+        return heap_sheet::rest_of_few(sheet, out, positions, n, lits, ends, p);
+    }
+    list_sheet::rest_of_few(sheet, out, n, lits, ends, p)
+}
+
+// The clause lines, with slices for their clauses, then the session's.
+fn clauses_with(
+    sheet: &[u8],
+    out: &mut [u8],
+    positions: &mut [u32],
+    heap: bool,
+    n: u32,
+    lits: &mut [u32],
+    ends: &mut [u32],
+    p: Place,
+) -> usize
+    requires { ⌜ Room (now sheet) p (now out) × (n ≤ number.maxVars) × (heap ≡ true → n ≤ length (now positions)) ⌝ }
+    requires { ⌜ Holds (now sheet) (now lits) (now ends) × (length (now lits) ≤ number.maxLiterals) ⌝ }
+    ensures { λ r. ⌜ Ended (now (sheet .entry)) p (reading (modeOf heap) n [] []) (now (out .entry)) r (now (out .exit)) ⌝ }
+{
+    let s = clause_lines(
+        sheet,
+        out,
+        n,
+        lits,
+        ends,
+        Section {
+            place: p,
+            literals: 0,
+            clauses: 0,
+        },
+    );
+    let literals = s.literals as usize;
+    let clauses = s.clauses as usize;
+    let q = s.place;
+    if n <= few_vars(heap) {
+        return few_lines(
+            sheet,
+            out,
+            positions,
+            heap,
+            n,
+            &lits[..literals],
+            &ends[..clauses],
+            q,
+        );
+    }
+    session_lines(
+        sheet,
+        out,
+        positions,
+        heap,
+        n,
+        &lits[..literals],
+        &ends[..clauses],
+        q,
+    )
+}
+
+// A short clause list has at most so many literals, and so many clauses.
+const SHORT: usize = 256;
+
+// The lines behind the first where clause lines come next. On a short sheet the slices for clauses are short: a literal takes two bytes at
+// least, and so does a clause line.
+fn clause_lines_first(
+    sheet: &[u8],
+    out: &mut [u8],
+    positions: &mut [u32],
+    heap: bool,
+    n: u32,
+    p: Place,
+) -> usize
+    requires { ⌜ Room (now sheet) p (now out) × (n ≤ number.maxVars) × (heap ≡ true → n ≤ length (now positions)) ⌝ }
+    ensures { λ r. ⌜ Ended (now (sheet .entry)) p (reading (modeOf heap) n [] []) (now (out .entry)) r (now (out .exit)) ⌝ }
+{
+    if sheet.len() <= 2 * SHORT {
+        let mut lits = [0u32; SHORT];
+        let mut ends = [0u32; SHORT];
+        return clauses_with(sheet, out, positions, heap, n, &mut lits, &mut ends, p);
+    }
+    let mut lits = [0u32; MAX_LITERALS as usize];
+    let mut ends = [0u32; MAX_CLAUSES as usize];
+    clauses_with(sheet, out, positions, heap, n, &mut lits, &mut ends, p)
+}
+
+// The lines behind the first, in heap or in list mode. Without clause lines the slices for clauses are not set up.
+fn lines_behind(
+    sheet: &[u8],
+    out: &mut [u8],
+    positions: &mut [u32],
+    heap: bool,
+    n: u32,
+    p: Place,
+) -> usize
+    requires { ⌜ Room (now sheet) p (now out) × (n ≤ number.maxVars) × (heap ≡ true → n ≤ length (now positions)) ⌝ }
+    ensures { λ r. ⌜ Ended (now (sheet .entry)) p (reading (modeOf heap) n [] []) (now (out .entry)) r (now (out .exit)) ⌝ }
+{
+    if next_is_clause(sheet, p) {
+        return clause_lines_first(sheet, out, positions, heap, n, p);
+    }
+    let none = [0u32; 0];
+    if n <= few_vars(heap) {
+        return few_lines(sheet, out, positions, heap, n, &none, &none, p);
+    }
+    session_lines(sheet, out, positions, heap, n, &none, &none, p)
+}
+
+// How many variables the shorter arrays of positions have room for.
+const FEW: u32 = 128;
+
+const SOME: u32 = 320;
+
+// The lines behind the first, on positions set up for them.
+fn own_positions(sheet: &[u8], out: &mut [u8], heap: bool, n: u32, p: Place) -> usize
+    requires { ⌜ Room (now sheet) p (now out) × (n ≤ number.maxVars) ⌝ }
+    ensures { λ r. ⌜ Ended (now (sheet .entry)) p (reading (modeOf heap) n [] []) (now (out .entry)) r (now (out .exit)) ⌝ }
+{
+    if n <= FEW {
+        let mut few = [NONE; FEW as usize];
+        return lines_behind(sheet, out, &mut few, heap, n, p);
+    }
+    if n <= SOME {
+        let mut some = [NONE; SOME as usize];
+        return lines_behind(sheet, out, &mut some, heap, n, p);
+    }
+    let mut all = [NONE; MAX_VARS as usize];
+    lines_behind(sheet, out, &mut all, heap, n, p)
+}
+
+// The lines behind the first, on the positions lent where they are enough or not needed, or else on positions set up for them.
+pub fn with_positions(
+    sheet: &[u8],
+    out: &mut [u8],
+    positions: &mut [u32],
+    heap: bool,
+    n: u32,
+    p: Place,
+) -> usize
+    requires { ⌜ Room (now sheet) p (now out) × (n ≤ number.maxVars) ⌝ }
+    ensures { λ r. ⌜ Ended (now (sheet .entry)) p (reading (modeOf heap) n [] []) (now (out .entry)) r (now (out .exit)) ⌝ }
+{
+    if !heap {
+        return lines_behind(sheet, out, positions, heap, n, p);
+    }
+    if n as usize <= positions.len() {
+        return lines_behind(sheet, out, positions, heap, n, p);
+    }
+    own_positions(sheet, out, heap, n, p)
+}

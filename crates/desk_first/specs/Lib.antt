@@ -1,2 +1,0 @@
--- A call sheet, as code runs it from its first line on.
-pub mod First

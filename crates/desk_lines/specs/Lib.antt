@@ -1,2 +1,0 @@
--- The lines behind the first.
-pub mod Behind

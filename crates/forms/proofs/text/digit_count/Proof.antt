@@ -1,0 +1,40 @@
+-- `text::digit_count` meets its contract: a number between two powers of ten has as many digits as the lower has.
+use native.Mathlib.Omega.{arith}
+use mathlib.Core.Path.{sym, ap}
+use lib.ListN.{length}
+use Rattle.forms.specs.TextLaws.{digits-one, digits-count}
+use Rattle.forms.proofs.text.digit_count.Statement.{statement}
+use Rattle.forms.proofs.text.digit_count.Tie as tie
+
+returns : tie.Need-returns
+returns c = sym (ap length (digits-one (c .before .args .v) (c .if1 .taken)))
+
+returns-2 : tie.Need-returns-2
+returns-2 c = sym (digits-count 0 (c .before .before .args .v) (omega arith) (omega arith) (omega arith))
+
+returns-3 : tie.Need-returns-3
+returns-3 c = sym (digits-count 1 (c .before .before .before .args .v) (omega arith) (omega arith) (omega arith))
+
+returns-4 : tie.Need-returns-4
+returns-4 c = sym (digits-count 2 (c .before .before .before .before .args .v) (omega arith) (omega arith) (omega arith))
+
+returns-5 : tie.Need-returns-5
+returns-5 c = sym (digits-count 3 (c .before .before .before .before .before .args .v) (omega arith) (omega arith) (omega arith))
+
+returns-6 : tie.Need-returns-6
+returns-6 c = sym (digits-count 4 (c .before .before .before .before .before .before .args .v) (omega arith) (omega arith) (omega arith))
+
+returns-7 : tie.Need-returns-7
+returns-7 c = sym (digits-count 5 (c .before .before .before .before .before .before .before .args .v) (omega arith) (omega arith) (omega arith))
+
+returns-8 : tie.Need-returns-8
+returns-8 c = sym (digits-count 6 (c .before .before .before .before .before .before .before .before .args .v) (omega arith) (omega arith) (omega arith))
+
+returns-9 : tie.Need-returns-9
+returns-9 c = sym (digits-count 7 (c .before .before .before .before .before .before .before .before .before .args .v) (omega arith) (omega arith) (omega arith))
+
+returns-10 : tie.Need-returns-10
+returns-10 c = sym (digits-count 8 (c .before .before .before .before .before .before .before .before .before .args .v) (omega arith) (omega arith) (omega arith))
+
+pub digit-count-spec : {M : Type 1} → statement M
+digit-count-spec = tie.close (tie.spec returns returns-2 returns-3 returns-4 returns-5 returns-6 returns-7 returns-8 returns-9 returns-10)

@@ -1,0 +1,237 @@
+-- Reading bytes from the front: what is left after i bytes still decides. The laws that the loops cite. Assumes nothing.
+use Prim.Native.Nat.{ℕ, zero, suc, _+_, _*_, _-_, _%_, _^_, _≤_, _<_}
+use mathlib.Core.Path.{_≡_, refl, sym, _∙_}
+use mathlib.Core.Logic.{by-cases}
+use mathlib.Core.Bool.{true, false, cond, not, _&&_, false≢true}
+use mathlib.Core.Option.{Option, none, some}
+use mathlib.Core.List.{List, [], _∷_}
+use native.Mathlib.Decide.{ℕ-discrete}
+use native.Mathlib.Omega.{arith}
+use native.Mathlib.Numerals.{add-one}
+use native.Mathlib.Nat.{pow-suc, pow-le-pow-right}
+use borrow.Author.Tests.{eq-eqb, ne-eqb, le-leb, lt-leb, leb-true, lt-ltb, le-ltb}
+use lib.Dec.{leb, T}
+use lib.Ieee.{Float, nan, inf, fin, binary64, ofBits, div, isNan, nanBits}
+use lib.Ieee.Bits.{nanBits-is, nanBits-above}
+use lib.ListN.{length, getD, take, drop, drop-of-length-le}
+use lib.Seq.{drop-drop}
+use Rattle.laws.specs.Tests.{and-true, and-false, and-left, and-right, not-true, not-false}
+use Rattle.laws.specs.Choices.{or-cases}
+use Rattle.laws.specs.Parts.{drop-next}
+use Rattle.lit.specs.Numbers.{NONE}
+use Rattle.forms.specs.Text.{find, occurs, all, isDigit, decimal, plain, number, isHex, hexDigit, hexadecimal, pattern}
+
+-- what a search finds, counted from here
+module _ (b : ℕ) (l : List ℕ) (i : ℕ) where
+  pub find-next : i < length l → (getD l i 0 ≡ b → ⊥) → find b (drop i l) ≡ suc (find b (drop (i + 1) l))
+  unfolding find
+  find-next h n = rw (drop-next l i h, ne-eqb (getD l i 0) b n)
+
+  pub find-here : i < length l → getD l i 0 ≡ b → find b (drop i l) ≡ 0
+  unfolding find
+  find-here h e = rw (drop-next l i h, eq-eqb (getD l i 0) b e)
+
+  pub find-none : length l ≤ i → find b (drop i l) ≡ 0
+  unfolding find
+  find-none h = rw (drop-of-length-le l h)
+
+-- what is counted from here
+module _ (b : ℕ) (l : List ℕ) (i : ℕ) where
+  pub occurs-other : i < length l → (getD l i 0 ≡ b → ⊥) → occurs b (drop i l) ≡ occurs b (drop (i + 1) l)
+  unfolding occurs
+  occurs-other h n = rw (drop-next l i h, ne-eqb (getD l i 0) b n)
+
+  pub occurs-same : i < length l → getD l i 0 ≡ b → occurs b (drop i l) ≡ suc (occurs b (drop (i + 1) l))
+  unfolding occurs
+  occurs-same h e = rw (drop-next l i h, eq-eqb (getD l i 0) b e)
+
+  pub occurs-end : length l ≤ i → occurs b (drop i l) ≡ 0
+  unfolding occurs
+  occurs-end h = rw (drop-of-length-le l h)
+
+-- so many bytes are counted at a time
+abbrev pub block : ℕ
+block = 240
+
+-- the bytes before place n, and those behind
+pub occurs-parts : (b n : ℕ) (l : List ℕ) → occurs b l ≡ occurs b (take n l) + occurs b (drop n l)
+unfolding occurs
+occurs-parts b zero l = omega arith
+occurs-parts b (suc n) [] = omega arith
+occurs-parts b (suc n) (c ∷ l) = by-cases (ℕ-discrete c b) (λ e. rw (eq-eqb c b e) (omega (arith, occurs-parts b n l))) (λ d. rw (ne-eqb c b d) (occurs-parts b n l))
+
+-- .. counted from place i, up to place j and from there
+pub occurs-between : (b : ℕ) (l : List ℕ) (i j : ℕ) → i ≤ j → occurs b (drop i l) ≡ occurs b (take (j - i) (drop i l)) + occurs b (drop j l)
+occurs-between b l i j h =
+    let e : i + (j - i) ≡ j = omega arith in
+    let d : drop (j - i) (drop i l) ≡ drop j l = rw e at (drop-drop (j - i) i l) in
+    rw (sym d) (occurs-parts b (j - i) (drop i l))
+
+-- the number that the digits left give behind v
+unfoldable pub numberFrom : ℕ → List ℕ → Option ℕ
+numberFrom v bs = cond (all isDigit bs && leb (decimal v bs) NONE) (some (decimal v bs)) none
+
+-- `decimal` only grows as digits are read
+pub decimal-grows : (v : ℕ) (bs : List ℕ) → v ≤ decimal v bs
+unfolding decimal
+decimal-grows v [] = omega arith
+decimal-grows v (b ∷ bs) = omega (arith, decimal-grows (v * 10 + (b - 48)) bs)
+
+-- the next byte: a digit, or none
+module _ (v : ℕ) (l : List ℕ) (i : ℕ) (h : i < length l) where
+  pub number-next : 48 ≤ getD l i 0 → getD l i 0 ≤ 57 → numberFrom v (drop i l) ≡ numberFrom (v * 10 + (getD l i 0 - 48)) (drop (i + 1) l)
+  unfolding numberFrom all decimal
+  number-next low high = rw (drop-next l i h, le-leb 48 (getD l i 0) low, le-leb (getD l i 0) 57 high)
+
+  pub number-low : getD l i 0 < 48 → numberFrom v (drop i l) ≡ none
+  unfolding numberFrom all
+  number-low low = rw (drop-next l i h, lt-leb 48 (getD l i 0) low)
+
+  pub number-high : 57 < getD l i 0 → numberFrom v (drop i l) ≡ none
+  unfolding numberFrom all
+  number-high high = rw (drop-next l i h, lt-leb (getD l i 0) 57 high, and-false (leb 48 (getD l i 0)))
+
+-- so a part above the greatest number means that the whole is
+pub number-over : (v : ℕ) (bs : List ℕ) → NONE < v → numberFrom v bs ≡ none
+unfolding numberFrom
+number-over v bs h = let o : NONE < decimal v bs = omega (arith, decimal-grows v bs) in rw (lt-leb (decimal v bs) NONE o, and-false (all isDigit bs))
+
+pub number-end : (v : ℕ) (l : List ℕ) (i : ℕ) → length l ≤ i → v ≤ NONE → numberFrom v (drop i l) ≡ some v
+unfolding numberFrom all decimal
+number-end v l i e h = rw (drop-of-length-le l e, le-leb v NONE h)
+
+-- the whole number where no zero leads
+pub plain-starts : (bs : List ℕ) → 0 < length bs → (getD bs 0 0 ≡ 48 → 1 < length bs → ⊥) → plain bs ≡ all isDigit bs
+unfolding plain all
+plain-starts [] l z = absurd (omega arith)
+plain-starts (b ∷ []) l z = rw (and-true (isDigit b))
+plain-starts (b ∷ (c ∷ bs)) l z = rw (ne-eqb b 48 (λ e. z e (omega arith)), and-true (isDigit b))
+
+pub number-starts : (bs : List ℕ) → 0 < length bs → (getD bs 0 0 ≡ 48 → 1 < length bs → ⊥) → number bs ≡ numberFrom 0 bs
+unfolding number numberFrom
+number-starts bs l z = rw (plain-starts bs l z)
+
+pub number-empty : (bs : List ℕ) → length bs ≡ 0 → number bs ≡ none
+unfolding number plain
+number-empty [] e = refl
+number-empty (b ∷ bs) e = absurd (omega arith)
+
+pub number-zero : (bs : List ℕ) → getD bs 0 0 ≡ 48 → 1 < length bs → number bs ≡ none
+unfolding number plain
+number-zero [] e h = absurd (omega arith)
+number-zero (b ∷ []) e h = absurd (omega arith)
+number-zero (b ∷ (c ∷ bs)) e h = rw (eq-eqb b 48 e, and-false (isDigit b))
+
+-- no digits that give a number, so none at all
+pub digits-none : (bs : List ℕ) → numberFrom 0 bs ≡ none → number bs ≡ none
+digits-none [] e = number-empty [] refl
+digits-none (b ∷ []) e = number-starts (b ∷ []) (omega arith) (λ z l. omega arith) ∙ e
+digits-none (b ∷ (c ∷ bs)) e = by-cases (ℕ-discrete b 48) (λ z. number-zero (b ∷ (c ∷ bs)) z (omega arith)) (λ z. number-starts (b ∷ (c ∷ bs)) (omega arith) (λ w l. z w) ∙ e)
+
+-- the field from the front up to the first such byte
+abbrev pub upTo : ℕ → List ℕ → List ℕ
+upTo b l = take (find b l) l
+
+module _ (b : ℕ) (l : List ℕ) (i : ℕ) where
+  pub field-next : i < length l → (getD l i 0 ≡ b → ⊥) → upTo b (drop i l) ≡ getD l i 0 ∷ upTo b (drop (i + 1) l)
+  unfolding find
+  field-next h n = rw (drop-next l i h, ne-eqb (getD l i 0) b n)
+
+-- the value of a byte as a hexadecimal digit, and 16 where it is none
+abbrev pub hexValue : ℕ → ℕ
+hexValue b = cond (isHex b) (hexDigit b) 16
+
+module _ (b : ℕ) where
+  pub hex-low : 48 ≤ b → b ≤ 57 → hexValue b ≡ b - 48
+  hex-low l h = rw (le-leb 48 b l, le-leb b 57 h)
+
+  pub hex-high : 97 ≤ b → b ≤ 102 → hexValue b ≡ b - 87
+  hex-high l h = rw (le-leb 48 b (omega arith), lt-leb b 57 (omega arith), le-leb 97 b l, le-leb b 102 h)
+
+  -- between the digits and the letters, and outside
+  pub hex-none : (48 ≤ b → b ≤ 57 → ⊥) → (97 ≤ b → b ≤ 102 → ⊥) → hexValue b ≡ 16
+  hex-none p q =
+      let digit : isHex b ≡ false =
+      not-true (isHex b) (λ e. or-cases (isDigit b) (leb 97 b && leb b 102) e
+      (λ e. p (leb-true 48 b (and-left (leb 48 b) (leb b 57) e)) (leb-true b 57 (and-right (leb 48 b) (leb b 57) e)))
+      (λ e. q (leb-true 97 b (and-left (leb 97 b) (leb b 102) e)) (leb-true b 102 (and-right (leb 97 b) (leb b 102) e)))) in
+      rw digit
+
+  hex-small : isHex b ≡ true → hexValue b < 16
+  hex-small e =
+      or-cases (isDigit b) (leb 97 b && leb b 102) e
+      (λ e. (let l : 48 ≤ b = leb-true 48 b (and-left (leb 48 b) (leb b 57) e) in
+      let h : b ≤ 57 = leb-true b 57 (and-right (leb 48 b) (leb b 57) e) in
+      omega (arith, hex-low l h)))
+      (λ e. (let l : 97 ≤ b = leb-true 97 b (and-left (leb 97 b) (leb b 102) e) in
+      let h : b ≤ 102 = leb-true b 102 (and-right (leb 97 b) (leb b 102) e) in
+      omega (arith, hex-high l h)))
+
+  is-hex : (hexValue b ≡ 16 → ⊥) → isHex b ≡ true
+  is-hex n = not-false (isHex b) (λ e. n (rw e))
+
+  no-hex : hexValue b ≡ 16 → isHex b ≡ false
+  no-hex n = not-true (isHex b) (λ e. omega (arith, hex-small e))
+
+-- the bits that the digits left give behind v
+unfoldable pub patternFrom : ℕ → List ℕ → Option ℕ
+patternFrom v bs = cond (all isHex bs) (some (hexadecimal v bs)) none
+
+module _ (v : ℕ) (l : List ℕ) (i d : ℕ) (h : i < length l) (is : d ≡ hexValue (getD l i 0)) where
+  pub pattern-next : (d ≡ 16 → ⊥) → patternFrom v (drop i l) ≡ patternFrom (v * 16 + d) (drop (i + 1) l)
+  unfolding patternFrom all hexadecimal
+  pattern-next n =
+      let hex : isHex (getD l i 0) ≡ true = is-hex (getD l i 0) (λ e. n (is ∙ e)) in
+      let digit : d ≡ hexDigit (getD l i 0) = is ∙ rw hex in
+      rw (digit, drop-next l i h, hex)
+
+  pub pattern-digit : (d ≡ 16 → ⊥) → d < 16
+  pattern-digit n = omega (arith, hex-small (getD l i 0) (is-hex (getD l i 0) (λ e. n (is ∙ e))))
+
+  pub pattern-bad : d ≡ 16 → patternFrom v (drop i l) ≡ none
+  unfolding patternFrom all
+  pattern-bad e = rw (drop-next l i h, no-hex (getD l i 0) (sym is ∙ e))
+
+pub pattern-end : (v : ℕ) (l : List ℕ) (i : ℕ) → length l ≤ i → patternFrom v (drop i l) ≡ some v
+unfolding patternFrom all hexadecimal
+pattern-end v l i h = rw (drop-of-length-le l h)
+
+pub pattern-starts : (l : List ℕ) → length l ≡ 16 → pattern l ≡ patternFrom 0 l
+unfolding pattern patternFrom
+pattern-starts l e = rw (eq-eqb (length l) 16 e)
+
+pub pattern-other : (l : List ℕ) → (length l ≡ 16 → ⊥) → pattern l ≡ none
+unfolding pattern
+pattern-other l n = rw (ne-eqb (length l) 16 n)
+
+-- i digits fill 4 i bits
+pub hex-room : (v i d : ℕ) → v < 16 ^ i → d < 16 → v * 16 + d < 16 ^ (i + 1)
+hex-room v i d h b = rw (add-one i, pow-suc 16 i) (omega arith)
+
+pub room-left : (v i : ℕ) → v < 16 ^ i → i < 16 → v < 16 ^ 15
+room-left v i h b =
+    let most : 16 ^ i ≤ 16 ^ 15 = pow-le-pow-right {n = 16} (omega arith) {i = i} {j = 15} (omega arith) in
+    omega arith
+
+-- the patterns of a NaN: those above an infinity's, the sign aside
+is-nan : (x : Float) → isNan x ≡ true → x ≡ nan
+unfolding isNan
+is-nan nan e = refl
+is-nan (inf s) e = absurd (false≢true e)
+is-nan (fin s m k) e = absurd (false≢true e)
+
+abbrev pub infinity : ℕ
+infinity = 9218868437227405312
+
+abbrev pub sign : ℕ
+sign = 9223372036854775808
+
+pub no-number : div binary64 (ofBits binary64 0) (ofBits binary64 0) ≡ nan
+unfolding div ofBits
+no-number = refl
+
+pub nan-pattern : (p : ℕ) → infinity < p % sign → ofBits binary64 p ≡ nan
+nan-pattern p h = is-nan (ofBits binary64 p) (sym (nanBits-is binary64 p) ∙ nanBits-above binary64 p ∙ lt-ltb infinity (p % sign) h)
+
+pub no-nan : (p : ℕ) → p % sign ≤ infinity → T (not (nanBits binary64 p))
+no-nan p h = rw (nanBits-above binary64 p, le-ltb infinity (p % sign) h) tt

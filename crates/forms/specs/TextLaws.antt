@@ -1,0 +1,318 @@
+-- Laws of the text of a call sheet: lines and fields from the front, what was written, and that each number has one text. Assumes nothing.
+use Prim.Native.Nat.{ℕ, zero, suc, _+_, _*_, _-_, _/_, _%_, _^_, _≤_, _<_}
+use mathlib.Core.Path.{_≡_, refl, sym, ap, _∙_}
+use mathlib.Core.Logic.{_≢_}
+use mathlib.Core.Bool.{Bool, true, cond, not, _&&_, false≢true}
+use mathlib.Core.Option.{none, some}
+use mathlib.Core.List.{List, [], _∷_, _++_, append-nil}
+use native.Mathlib.Omega.{arith}
+use native.Mathlib.Numerals.{add-one}
+use native.Mathlib.Nat.{pow-suc}
+use borrow.Author.Tests.{le-leb, lt-ltb, le-ltb, ltb-true, ltb-false, leb-true, eqb-false}
+use borrow.Author.Tests as tests
+use lib.Dec.{eqb, leb, ltb}
+use lib.ListN.{length, getD, set, take, drop, length-append, length-set, List·getD-append}
+use lib.Seq.{append-snoc, set-comm}
+use Rattle.laws.specs.Tests.{true-or-false, and-left, and-right, and-both}
+use Rattle.lit.specs.Numbers.{NONE}
+use Rattle.forms.specs.Text.{newline, splitFrom, split, butLast, lines, occurs, find, all, isDigit, decimal, plain, number, digitsBy, digits, written}
+use Rattle.forms.specs.Reading.{decimal-grows, plain-starts}
+
+-- the first such byte, and how many there are
+module _ (b : ℕ) where
+  pub find-length : (bs : List ℕ) → find b bs ≤ length bs
+  unfolding find
+  find-length [] = omega arith
+  find-length (c ∷ cs) = true-or-false (eqb c b) (λ e. rw e (omega arith)) (λ e. rw e (omega (arith, find-length cs)))
+
+  pub occurs-length : (bs : List ℕ) → occurs b bs ≤ length bs
+  unfolding occurs
+  occurs-length [] = omega arith
+  occurs-length (c ∷ cs) = true-or-false (eqb c b) (λ e. rw e (omega (arith, occurs-length cs))) (λ e. rw e (omega (arith, occurs-length cs)))
+
+  pub occurs-found : (bs : List ℕ) → 0 < occurs b bs → find b bs < length bs
+  unfolding occurs find
+  occurs-found [] h = absurd (omega arith)
+  occurs-found (c ∷ cs) h =
+      true-or-false (eqb c b)
+      (λ e. rw e (omega arith))
+      (λ e. let q : 0 < occurs b cs = rw e at h in rw e (omega (arith, occurs-found cs q)))
+
+  pub occurs-none : (bs : List ℕ) → occurs b bs ≡ 0 → find b bs ≡ length bs
+  unfolding occurs find
+  occurs-none [] h = refl
+  occurs-none (c ∷ cs) h =
+      true-or-false (eqb c b)
+      (λ e. let q : suc (occurs b cs) ≡ 0 = rw e at h in absurd (omega arith))
+      (λ e. let q : occurs b cs ≡ 0 = rw e at h in rw e (ap suc (occurs-none cs q)))
+
+  occurs-on : (bs : List ℕ) → find b bs < length bs → occurs b bs ≡ suc (occurs b (drop (suc (find b bs)) bs))
+  unfolding occurs find
+  occurs-on [] h = absurd (omega arith)
+  occurs-on (c ∷ cs) h =
+      true-or-false (eqb c b)
+      (λ e. rw e)
+      (λ e. let q : suc (find b cs) < suc (length cs) = rw e at h in rw e (occurs-on cs (omega arith)))
+
+  -- counted down: one less behind the first
+  pub occurs-next : (bs : List ℕ) → find b bs < length bs → occurs b bs ≡ suc (occurs b (drop (find b bs + 1) bs))
+  occurs-next bs h = rw (add-one (find b bs)) (occurs-on bs h)
+
+-- the pieces, one by one
+module _ (sep : ℕ) where
+  split-on : (piece bs : List ℕ) → find sep bs < length bs → splitFrom sep piece bs ≡ (piece ++ take (find sep bs) bs) ∷ splitFrom sep [] (drop (suc (find sep bs)) bs)
+  unfolding splitFrom find
+  split-on piece [] h = absurd (omega arith)
+  split-on piece (b ∷ bs) h =
+      true-or-false (eqb b sep)
+      (λ e. rw (e, append-nil piece))
+      (λ e. let q : suc (find sep bs) < suc (length bs) = rw e at h in rw e (split-on (piece ++ (b ∷ [])) bs (omega arith) ∙ rw (append-snoc piece b (take (find sep bs) bs))))
+
+  split-end : (piece bs : List ℕ) → find sep bs ≡ length bs → splitFrom sep piece bs ≡ (piece ++ bs) ∷ []
+  unfolding splitFrom find
+  split-end piece [] h = rw (append-nil piece)
+  split-end piece (b ∷ bs) h =
+      true-or-false (eqb b sep)
+      (λ e. let q : 0 ≡ suc (length bs) = rw e at h in absurd (omega arith))
+      (λ e. let q : suc (find sep bs) ≡ suc (length bs) = rw e at h in rw e (split-end (piece ++ (b ∷ [])) bs (omega arith) ∙ rw (append-snoc piece b bs)))
+
+  pub split-found : (bs : List ℕ) → find sep bs < length bs → split sep bs ≡ take (find sep bs) bs ∷ split sep (drop (find sep bs + 1) bs)
+  split-found bs h = rw (add-one (find sep bs)) (split-on [] bs h)
+
+  pub split-last : (bs : List ℕ) → find sep bs ≡ length bs → split sep bs ≡ bs ∷ []
+  split-last bs h = split-end [] bs h
+
+  -- one more than the separators
+  split-count : (piece bs : List ℕ) → length (splitFrom sep piece bs) ≡ suc (occurs sep bs)
+  unfolding splitFrom occurs
+  split-count piece [] = refl
+  split-count piece (b ∷ bs) = true-or-false (eqb b sep) (λ e. rw e (ap suc (split-count [] bs))) (λ e. rw e (split-count (piece ++ (b ∷ [])) bs))
+
+  pub split-length : (bs : List ℕ) → length (split sep bs) ≡ suc (occurs sep bs)
+  split-length bs = split-count [] bs
+
+but-cons : (p : List ℕ) (ps : List (List ℕ)) → 0 < length ps → butLast (p ∷ ps) ≡ p ∷ butLast ps
+unfolding butLast
+but-cons p [] h = absurd (omega arith)
+but-cons p (q ∷ ps) h = refl
+
+but-length : (ps : List (List ℕ)) → length (butLast ps) ≡ length ps - 1
+unfolding butLast
+but-length [] = refl
+but-length (p ∷ []) = refl
+but-length (p ∷ (q ∷ ps)) = omega (arith, but-length (q ∷ ps))
+
+-- the lines, one by one
+pub lines-next : (bs : List ℕ) → find newline bs < length bs → lines bs ≡ take (find newline bs) bs ∷ lines (drop (find newline bs + 1) bs)
+lines-next bs h =
+    let rest = drop (find newline bs + 1) bs in
+    ap butLast (split-found newline bs h) ∙ but-cons (take (find newline bs) bs) (split newline rest) (omega (arith, split-length newline rest))
+
+pub lines-end : (bs : List ℕ) → occurs newline bs ≡ 0 → lines bs ≡ []
+unfolding butLast
+lines-end bs h = ap butLast (split-last newline bs (occurs-none newline bs h))
+
+pub lines-length : (bs : List ℕ) → length (lines bs) ≡ occurs newline bs
+lines-length bs = omega (arith, but-length (split newline bs), split-length newline bs)
+
+-- what was written
+pub written-append : (at : ℕ) (a b l : List ℕ) → written at (a ++ b) l ≡ written (at + length a) b (written at a l)
+unfolding written
+written-append at [] b l = let e : at + 0 ≡ at = omega arith in rw e
+written-append at (x ∷ a) b l =
+    let e : at + suc (length a) ≡ at + 1 + length a = omega arith in
+    rw e (written-append (at + 1) a b (set l at x))
+
+pub written-length : (at : ℕ) (bs l : List ℕ) → length (written at bs l) ≡ length l
+unfolding written
+written-length at [] l = refl
+written-length at (b ∷ bs) l = written-length (at + 1) bs (set l at b) ∙ length-set l at b
+
+-- the last byte may be written first
+written-last : (at x : ℕ) (bs l : List ℕ) → written at (bs ++ (x ∷ [])) l ≡ written at bs (set l (at + length bs) x)
+unfolding written
+written-last at x [] l = let e : at + 0 ≡ at = omega arith in rw e
+written-last at x (b ∷ bs) l =
+    let e : at + 1 + length bs ≡ at + length (b ∷ bs) = omega arith in
+    rw (set-comm l (at + length (b ∷ bs)) at x b (λ q. omega arith)) (rw e at (written-last (at + 1) x bs (set l at b)))
+
+-- the digits of a number
+tenth : (k n : ℕ) → n < 10 ^ suc k → n / 10 < 10 ^ k
+tenth k n h = omega (arith, pow-suc 10 k)
+
+-- places that are not needed change nothing
+digits-enough : (j k n : ℕ) → n < 10 ^ suc j → n < 10 ^ suc k → digitsBy (suc j) n ≡ digitsBy (suc k) n
+unfolding digitsBy
+digits-enough zero k n p q = rw (lt-ltb n 10 p)
+digits-enough (suc j) zero n p q = rw (lt-ltb n 10 q)
+digits-enough (suc j) (suc k) n p q =
+    true-or-false (ltb n 10)
+    (λ e. rw e)
+    (λ e. rw (e, digits-enough j k (n / 10) (tenth (suc j) n p) (tenth (suc k) n q)))
+
+pub digits-one : (n : ℕ) → n < 10 → digits n ≡ (48 + n) ∷ []
+unfolding digitsBy
+digits-one n h = rw (lt-ltb n 10 h)
+
+digits-more : (k n : ℕ) → 10 ≤ n → digitsBy (suc k) n ≡ digitsBy k (n / 10) ++ ((48 + n % 10) ∷ [])
+unfolding digitsBy
+digits-more k n h = rw (le-ltb n 10 h)
+
+pub digits-step : (n : ℕ) → 10 ≤ n → n < 10 ^ 10 → digits n ≡ digits (n / 10) ++ ((48 + n % 10) ∷ [])
+digits-step n l h = digits-more 9 n l ∙ rw (digits-enough 8 9 (n / 10) (omega arith) (omega arith))
+
+pub digits-length : (n : ℕ) → 10 ≤ n → n < 10 ^ 10 → length (digits n) ≡ length (digits (n / 10)) + 1
+digits-length n l h = ap length (digits-step n l h) ∙ length-append (digits (n / 10)) ((48 + n % 10) ∷ [])
+
+-- how many they are
+pub digits-count : (k n : ℕ) → 10 ^ suc k ≤ n → n < 10 ^ suc (suc k) → n < 10 ^ 10 → length (digits n) ≡ suc (suc k)
+digits-count zero n l u h =
+    let e : length (digits (n / 10)) ≡ 1 = ap length (digits-one (n / 10) (omega arith)) in
+    omega (arith, digits-length n (omega arith) h)
+digits-count (suc k) n l u h =
+    let e : length (digits (n / 10)) ≡ suc (suc k) = digits-count k (n / 10) (omega (arith, pow-suc 10 (suc k))) (tenth (suc (suc k)) n u) (omega arith) in
+    omega (arith, digits-length n (omega (arith, pow-suc 10 (suc k), pow-suc 10 k)) h)
+
+-- the last digit, written before the others
+pub digits-last-first : (at n : ℕ) (l : List ℕ) → 10 ≤ n → n < 10 ^ 10 → written at (digits n) l ≡ written at (digits (n / 10)) (set l (at + length (digits (n / 10))) (48 + n % 10))
+digits-last-first at n l h u = rw (digits-step n h u) (written-last at (48 + n % 10) (digits (n / 10)) l)
+
+-- a digit alone
+pub put-one : (at n : ℕ) (l : List ℕ) → n < 10 → set l at (48 + n) ≡ written at (digits n) l
+unfolding written
+put-one at n l h = rw (digits-one n h)
+
+pub digits-short : (k j n : ℕ) → n < 10 ^ suc k → length (digitsBy j n) ≤ suc k
+unfolding digitsBy
+digits-short k zero n h = omega arith
+digits-short zero (suc j) n h = rw (lt-ltb n 10 h) (omega arith)
+digits-short (suc k) (suc j) n h =
+    true-or-false (ltb n 10)
+    (λ e. rw e (omega arith))
+    (λ e. rw (e, length-append (digitsBy j (n / 10)) ((48 + n % 10) ∷ [])) (omega (arith, digits-short k j (n / 10) (tenth (suc k) n h))))
+
+pub digits-room : (j n : ℕ) → length (digitsBy j n) ≤ j
+unfolding digitsBy
+digits-room zero n = omega arith
+digits-room (suc j) n =
+    true-or-false (ltb n 10)
+    (λ e. rw e (omega arith))
+    (λ e. rw (e, length-append (digitsBy j (n / 10)) ((48 + n % 10) ∷ [])) (omega (arith, digits-room j (n / 10))))
+
+pub digits-some : (j n : ℕ) → 0 < length (digitsBy (suc j) n)
+unfolding digitsBy
+digits-some j n =
+    true-or-false (ltb n 10)
+    (λ e. rw e (omega arith))
+    (λ e. rw (e, length-append (digitsBy j (n / 10)) ((48 + n % 10) ∷ [])) (omega arith))
+
+pub digits-two : (n : ℕ) → n < 100 → length (digits n) ≤ 2
+digits-two n h = digits-short 1 10 n h
+
+pub digits-five : (n : ℕ) → n < 100000 → length (digits n) ≤ 5
+digits-five n h = digits-short 4 10 n h
+
+-- all of them are digits
+all-append : (p : ℕ → Bool) (a b : List ℕ) → all p a ≡ true → all p b ≡ true → all p (a ++ b) ≡ true
+unfolding all
+all-append p [] b e q = q
+all-append p (x ∷ a) b e q = and-both (and-left (p x) (all p a) e) (all-append p a b (and-right (p x) (all p a) e) q)
+
+all-none : (p : ℕ → Bool) → all p [] ≡ true
+unfolding all
+all-none p = refl
+
+one-digit : (n : ℕ) → n < 10 → all isDigit ((48 + n) ∷ []) ≡ true
+unfolding all
+one-digit n h = rw (le-leb 48 (48 + n) (omega arith), le-leb (48 + n) 57 (omega arith))
+
+pub digits-all : (j n : ℕ) → all isDigit (digitsBy j n) ≡ true
+unfolding digitsBy
+digits-all zero n = all-none isDigit
+digits-all (suc j) n =
+    true-or-false (ltb n 10)
+    (λ e. rw e (one-digit n (ltb-true n 10 e)))
+    (λ e. rw e (all-append isDigit (digitsBy j (n / 10)) ((48 + n % 10) ∷ []) (digits-all j (n / 10)) (one-digit (n % 10) (omega arith))))
+
+-- the number of the digits is the number
+decimal-append : (v : ℕ) (a b : List ℕ) → decimal v (a ++ b) ≡ decimal (decimal v a) b
+unfolding decimal
+decimal-append v [] b = refl
+decimal-append v (x ∷ a) b = decimal-append (v * 10 + (x - 48)) a b
+
+decimal-digits : (j n : ℕ) → n < 10 ^ suc j → decimal 0 (digitsBy (suc j) n) ≡ n
+unfolding digitsBy decimal
+decimal-digits zero n h = rw (lt-ltb n 10 h) (omega arith)
+decimal-digits (suc j) n h =
+    true-or-false (ltb n 10)
+    (λ e. rw e (omega arith))
+    (λ e. rw (e, decimal-append 0 (digitsBy (suc j) (n / 10)) ((48 + n % 10) ∷ []), decimal-digits j (n / 10) (tenth (suc j) n h)) (omega arith))
+
+-- no zero leads
+digits-lead : (j n : ℕ) → 0 < n → n < 10 ^ suc j → 48 < getD (digitsBy (suc j) n) 0 0
+unfolding digitsBy
+digits-lead zero n l h = rw (lt-ltb n 10 h) (omega arith)
+digits-lead (suc j) n l h =
+    true-or-false (ltb n 10)
+    (λ e. rw e (omega arith))
+    (λ e. (let m : 10 ≤ n = ltb-false n 10 e in
+    rw (e, List·getD-append (digitsBy (suc j) (n / 10)) ((48 + n % 10) ∷ []) 0 0 (digits-some j (n / 10))) (digits-lead j (n / 10) (omega arith) (tenth (suc j) n h))))
+
+digits-plain : (n : ℕ) → n < 10 ^ 10 → plain (digits n) ≡ true
+digits-plain n h =
+    plain-starts (digits n) (digits-some 9 n)
+    (λ z more. true-or-false (ltb n 10)
+    (λ e. omega (arith, ap length (digits-one n (ltb-true n 10 e))))
+    (λ e. (let m : 10 ≤ n = ltb-false n 10 e in omega (arith, digits-lead 9 n (omega arith) h))))
+    ∙ digits-all 10 n
+
+-- a number's digits are read as the number
+pub number-digits : (n : ℕ) → n ≤ NONE → number (digits n) ≡ some n
+unfolding number
+number-digits n h = rw (digits-plain n (omega arith), decimal-digits 9 n (omega arith), le-leb n NONE h)
+
+-- and no other text is
+digits-decimal : (v : ℕ) (bs : List ℕ) → 0 < v → all isDigit bs ≡ true → decimal v bs < 10 ^ 10 → digits (decimal v bs) ≡ digits v ++ bs
+unfolding all decimal
+digits-decimal v [] p d h = sym (append-nil (digits v))
+digits-decimal v (b ∷ bs) p d h =
+    let w = v * 10 + (b - 48) in
+    let first : isDigit b ≡ true = and-left (isDigit b) (all isDigit bs) d in
+    let low : 48 ≤ b = leb-true 48 b (and-left (leb 48 b) (leb b 57) first) in
+    let high : b ≤ 57 = leb-true b 57 (and-right (leb 48 b) (leb b 57) first) in
+    let tens : w / 10 ≡ v = omega arith in
+    let last : 48 + w % 10 ≡ b = omega arith in
+    digits-decimal w bs (omega arith) (and-right (isDigit b) (all isDigit bs) d) h
+    ∙ rw (digits-step w (omega arith) (omega (arith, decimal-grows w bs)), tens, last) (append-snoc (digits v) b bs)
+
+plain-text : (bs : List ℕ) → plain bs ≡ true → decimal 0 bs < 10 ^ 10 → digits (decimal 0 bs) ≡ bs
+unfolding plain decimal
+plain-text [] d h = absurd (false≢true d)
+plain-text (b ∷ []) d h =
+    let low : 48 ≤ b = leb-true 48 b (and-left (leb 48 b) (leb b 57) d) in
+    let high : b ≤ 57 = leb-true b 57 (and-right (leb 48 b) (leb b 57) d) in
+    let v = 0 * 10 + (b - 48) in
+    let same : 48 + v ≡ b = omega arith in
+    digits-one v (omega arith) ∙ rw same
+plain-text (b ∷ (c ∷ bs)) d h =
+    let rest = all isDigit (c ∷ bs) in
+    let first : isDigit b && not (eqb b 48) ≡ true = and-left (isDigit b && not (eqb b 48)) rest d in
+    let digit : isDigit b ≡ true = and-left (isDigit b) (not (eqb b 48)) first in
+    let low : 48 ≤ b = leb-true 48 b (and-left (leb 48 b) (leb b 57) digit) in
+    let high : b ≤ 57 = leb-true b 57 (and-right (leb 48 b) (leb b 57) digit) in
+    let other : b ≢ 48 = eqb-false b 48 (tests.not-true (eqb b 48) (and-right (isDigit b) (not (eqb b 48)) first)) in
+    let v = 0 * 10 + (b - 48) in
+    let same : 48 + v ≡ b = omega arith in
+    digits-decimal v (c ∷ bs) (omega arith) (and-right (isDigit b && not (eqb b 48)) rest d) h ∙ rw (digits-one v (omega arith), same)
+
+pub number-text : (bs : List ℕ) (n : ℕ) → number bs ≡ some n → bs ≡ digits n
+unfolding number
+number-text bs n e =
+    true-or-false (plain bs && leb (decimal 0 bs) NONE)
+    (λ t. (let v : some (decimal 0 bs) ≡ some n = rw t at e in
+    let m : decimal 0 bs ≡ n = cc in
+    let top : decimal 0 bs ≤ NONE = leb-true (decimal 0 bs) NONE (and-right (plain bs) (leb (decimal 0 bs) NONE) t) in
+    sym (plain-text bs (and-left (plain bs) (leb (decimal 0 bs) NONE) t) (omega arith)) ∙ ap digits m))
+    (λ t. (let v : none ≡ some n = rw t at e in
+    let z : _≡_ {A = ℕ} 0 1 = cc in
+    absurd (omega arith)))

@@ -1,2 +1,0 @@
--- A line of a session in heap mode.
-pub mod Lines

@@ -1,2 +1,0 @@
--- The check of a session's state in heap mode.
-pub mod Check

@@ -1,0 +1,61 @@
+// The lines of a session in heap mode, done and answered in turn.
+ghost use lib.ListN.{length};
+ghost use Rattle.trail.specs.Memory.{trailOf};
+ghost use Rattle.vsids.specs.Vsids.{vsidsOf};
+ghost use Rattle.heap_session.specs.Memory.{sessionOf};
+ghost use Rattle.heap_session.specs.Good.{GoodSession};
+ghost use Rattle.sheet.specs.Stages.{inHeap};
+ghost use Rattle.sheet.specs.Running.{Room, Ended};
+use crate::line::HeapPlace;
+use crate::line::next_line;
+
+// Does the lines that are left and answers them, and gives the place behind the answers.
+pub fn heap_lines(
+    sheet: &[u8],
+    out: &mut [u8],
+    n: u32,
+    lits: &[u32],
+    ends: &[u32],
+    values: &mut [u8],
+    levels: &mut [u32],
+    reasons: &mut [u32],
+    trail: &mut [u32],
+    opened: &mut [u32],
+    activity: &mut [f64],
+    heap: &mut [u32],
+    indices: &mut [u32],
+    decision: &mut [bool],
+    s: HeapPlace,
+) -> usize
+    requires { ⌜ Room (now sheet) (s .place) (now out) ⌝ }
+    requires { ⌜ GoodSession n (length (now ends)) (now lits) (now ends) (trailOf (now values) (now levels) (now reasons) (now trail) (now opened) (s .state .trail)) (vsidsOf (now activity) (now heap) (now indices) (now decision) (s .state .vsids)) ⌝ }
+    ensures { λ r. ⌜ Ended (now (sheet .entry)) (s .place)
+        (inHeap n (now (lits .entry)) (now (ends .entry)) (sessionOf n (length (now (ends .entry))) (now (lits .entry)) (now (ends .entry)) (now (values .entry)) (now (levels .entry)) (now (reasons .entry)) (now (trail .entry)) (now (opened .entry)) (now (activity .entry)) (now (heap .entry)) (now (indices .entry)) (now (decision .entry)) (s .state)))
+        (now (out .entry))
+        r
+        (now (out .exit)) ⌝ }
+{
+    let mut u = s;
+    let mut left = s.place.left;
+    while left > 0 {
+        u = next_line(
+            sheet,
+            out,
+            n,
+            lits,
+            ends,
+            values,
+            levels,
+            reasons,
+            trail,
+            opened,
+            activity,
+            heap,
+            indices,
+            decision,
+            u,
+        );
+        left = left - 1;
+    }
+    u.place.at
+}

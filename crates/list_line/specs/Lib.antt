@@ -1,2 +1,0 @@
--- A line of a session in list mode.
-pub mod Lines

@@ -1,3 +1,0 @@
--- The session that the first line behind the clause lines meets, in list mode.
-pub mod Sizes
-pub mod Start

@@ -1,0 +1,87 @@
+// A session in list mode: the trail and the move-to-front list over lent slices, and the eleven calls on it.
+ghost use mathlib.Core.Path.{_≡_};
+ghost use mathlib.Core.List.{List};
+ghost use Prim.Native.Nat.{ℕ};
+ghost use lib.ListN.{length};
+ghost use Rattle.trail.specs.Memory.{trailOf};
+ghost use Rattle.vmtf.specs.Vmtf.{vmtfOf};
+ghost use Rattle.session.specs.Calls.{callOf};
+ghost use Rattle.list_session.specs.Memory.{sessionOf, Answers, cleared};
+ghost use Rattle.list_session.specs.Good.{GoodSession};
+ghost use Rattle.list_session.specs.Scratch.{clears};
+use crate::ListAnswer;
+use crate::ListState;
+use crate::accept;
+use crate::decide;
+use crate::group;
+use crate::tested;
+use crate::with_list;
+use activity::good_decay;
+use lit::BAD_DECAY;
+use lit::NO_VARIABLE;
+use lit::NONE;
+use session::Call;
+use session::on_trail;
+
+// A call on a good session. The stamps and the order are a group's scratch.
+pub fn step(
+    n: u32,
+    m: u32,
+    values: &mut [u8],
+    levels: &mut [u32],
+    reasons: &mut [u32],
+    trail: &mut [u32],
+    opened: &mut [u32],
+    next: &mut [u32],
+    prev: &mut [u32],
+    ts: &mut [u64],
+    s: ListState,
+    call: Call,
+    vars: &[u32],
+    stamps: &mut [u64],
+    order: &mut [u32],
+) -> ListAnswer
+    requires { ⌜ GoodSession n m (trailOf (now values) (now levels) (now reasons) (now trail) (now opened) (s .trail)) (vmtfOf (now next) (now prev) (now ts) (s .vmtf)) ⌝ }
+    requires { ⌜ (length (now stamps) ≡ length (now vars)) × (length (now order) ≡ length (now vars)) ⌝ }
+    ensures { λ r. ⌜ ((lits : List ℕ) → Answers n m lits (callOf call (now (vars .entry)))
+        (sessionOf n m lits (now (values .entry)) (now (levels .entry)) (now (reasons .entry)) (now (trail .entry)) (now (opened .entry)) (now (next .entry)) (now (prev .entry)) (now (ts .entry)) s)
+        r
+        (sessionOf n m lits (now (values .exit)) (now (levels .exit)) (now (reasons .exit)) (now (trail .exit)) (now (opened .exit)) (now (next .exit)) (now (prev .exit)) (now (ts .exit)) (r .state))) ⌝ }
+    ensures { λ r. ⌜ (now (stamps .exit) ≡ cleared (clears call (r .status)) (now (stamps .entry))) × (now (order .exit) ≡ cleared (clears call (r .status)) (now (order .entry))) ⌝ }
+{
+    let t = s.trail;
+    let l = s.vmtf;
+    match call {
+        Call::Bump(v) => tested(v < n, NO_VARIABLE, s),
+        Call::Decay => accept(NONE, s),
+        Call::SetDecay(d) => tested(good_decay(d), BAD_DECAY, s),
+        Call::Insert(v) => tested(v < n, NO_VARIABLE, s),
+        Call::SwitchOff(v) => tested(v < n, NO_VARIABLE, s),
+        Call::Decide(p) => decide(values, levels, reasons, trail, opened, next, s, p),
+        Call::Enqueue(code, reason) => {
+            let a = on_trail::enqueue(
+                n,
+                m,
+                values,
+                levels,
+                reasons,
+                trail,
+                opened,
+                t,
+                code,
+                reason,
+            );
+            with_list(a, l)
+        }
+        Call::LearnUnit(code) => {
+            let a = on_trail::learn_unit(n, values, levels, reasons, trail, opened, t, code);
+            with_list(a, l)
+        }
+        Call::GoBack(level) => {
+            let a = on_trail::go_back(values, levels, reasons, trail, opened, t, level);
+            with_list(a, l)
+        }
+        Call::BumpReason(v) => tested(v < n, NO_VARIABLE, s),
+        Call::Group => group(n, next, prev, ts, s, vars, stamps, order),
+    }
+}

@@ -1,0 +1,123 @@
+// A line of a session in list mode that is a group: the group moves to the front of the list.
+ghost use mathlib.Core.Path.{_≡_};
+ghost use mathlib.Core.List.{List};
+ghost use Prim.Native.Nat.{ℕ};
+ghost use lib.ListN.{length};
+ghost use Rattle.vmtf.specs.Vmtf.{vmtfOf};
+ghost use Rattle.choosers.specs.List.{listOps};
+ghost use Rattle.session.specs.Entry.{Answered};
+ghost use Rattle.list_session.specs.Memory.{sessionOf};
+ghost use Rattle.vmtf.specs.Good.{InOrder};
+ghost use Rattle.forms.specs.Read.{Fits, groupOn};
+ghost use Rattle.sheet.specs.Stages.{called};
+use forms::Count;
+use forms::FEW;
+use forms::MANY;
+use forms::SOME;
+use list_session::ListAnswer;
+use list_session::ListState;
+use lit::BAD_LINE;
+use lit::NONE;
+
+// Moves the group that a line is to the front of the list, or refusal 3. The variables, stamps and order are scratch.
+fn group_with(
+    line: &[u8],
+    n: u32,
+    next: &mut [u32],
+    prev: &mut [u32],
+    ts: &mut [u64],
+    s: ListState,
+    vars: &mut [u32],
+    stamps: &mut [u64],
+    order: &mut [u32],
+) -> ListAnswer
+    requires { ⌜ InOrder n (vmtfOf (now next) (now prev) (now ts) (s .vmtf)) ⌝ }
+    requires { ⌜ Fits (now line) (now vars) × (length (now stamps) ≡ length (now vars)) × (length (now order) ≡ length (now vars)) ⌝ }
+    ensures { λ r. ⌜ ((m : ℕ) (lits values levels reasons trail opened : List ℕ) → Answered (called n m (listOps n lits)
+        (sessionOf n m lits values levels reasons trail opened (now (next .entry)) (now (prev .entry)) (now (ts .entry)) s)
+        (groupOn (now (line .entry))))
+        (sessionOf n m lits values levels reasons trail opened (now (next .entry)) (now (prev .entry)) (now (ts .entry)) s)
+        (r .status)
+        (r .reply)
+        (sessionOf n m lits values levels reasons trail opened (now (next .exit)) (now (prev .exit)) (now (ts .exit)) (r .state))) ⌝ }
+{
+    let Count::Are(k) = forms::read_group(line, vars) else {
+        return list_session::refuse(BAD_LINE, s);
+    };
+    list_session::group(
+        n,
+        next,
+        prev,
+        ts,
+        s,
+        &vars[..k],
+        &mut stamps[..k],
+        &mut order[..k],
+    )
+}
+
+// The same with scratch of its own, as long as the line may need.
+pub fn group_line(
+    line: &[u8],
+    n: u32,
+    next: &mut [u32],
+    prev: &mut [u32],
+    ts: &mut [u64],
+    s: ListState,
+) -> ListAnswer
+    requires { ⌜ InOrder n (vmtfOf (now next) (now prev) (now ts) (s .vmtf)) ⌝ }
+    ensures { λ r. ⌜ ((m : ℕ) (lits values levels reasons trail opened : List ℕ) → Answered (called n m (listOps n lits)
+        (sessionOf n m lits values levels reasons trail opened (now (next .entry)) (now (prev .entry)) (now (ts .entry)) s)
+        (groupOn (now (line .entry))))
+        (sessionOf n m lits values levels reasons trail opened (now (next .entry)) (now (prev .entry)) (now (ts .entry)) s)
+        (r .status)
+        (r .reply)
+        (sessionOf n m lits values levels reasons trail opened (now (next .exit)) (now (prev .exit)) (now (ts .exit)) (r .state))) ⌝ }
+{
+    if line.len() <= 2 * FEW {
+        let mut vars = [NONE; FEW];
+        let mut stamps = [0u64; FEW];
+        let mut order = [NONE; FEW];
+        return group_with(
+            line,
+            n,
+            next,
+            prev,
+            ts,
+            s,
+            &mut vars,
+            &mut stamps,
+            &mut order,
+        );
+    }
+    if line.len() <= 2 * SOME {
+        let mut vars = [NONE; SOME];
+        let mut stamps = [0u64; SOME];
+        let mut order = [NONE; SOME];
+        return group_with(
+            line,
+            n,
+            next,
+            prev,
+            ts,
+            s,
+            &mut vars,
+            &mut stamps,
+            &mut order,
+        );
+    }
+    let mut vars = [NONE; MANY];
+    let mut stamps = [0u64; MANY];
+    let mut order = [NONE; MANY];
+    group_with(
+        line,
+        n,
+        next,
+        prev,
+        ts,
+        s,
+        &mut vars,
+        &mut stamps,
+        &mut order,
+    )
+}

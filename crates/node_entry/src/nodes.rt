@@ -1,0 +1,57 @@
+// The move-to-front list as a lent slice of node records, from decision.rs: its fields out into flat slices, and back.
+ghost use mathlib.Core.Path.{_≡_};
+ghost use mathlib.Core.List.{_++_};
+ghost use lib.ListN.{length, take, drop};
+ghost use Rattle.node_entry.specs.Nodes.{nexts, prevs, tss, FlatRoom, roomFor};
+use lit::MAX_VARS;
+
+// A variable's place in the list: its neighbours and its stamp.
+pub struct Node {
+    pub next: u32,
+    pub prev: u32,
+    pub ts: u64,
+}
+
+// One node more than there may be variables, so that too many are seen as too many.
+pub const ROOM: usize = MAX_VARS as usize + 1;
+
+// How many of the nodes there is room for.
+pub fn room_for(len: usize) -> usize
+    ensures { λ r. ⌜ r ≡ roomFor len ⌝ }
+{
+    if len < ROOM {
+        return len;
+    }
+    ROOM
+}
+
+// Reads the fields of the first nodes, each into a slice of its own.
+pub fn gather(nodes: &[Node], next: &mut [u32], prev: &mut [u32], ts: &mut [u64])
+    requires { ⌜ FlatRoom (now nodes) (now next) (now prev) (now ts) ⌝ }
+    ensures { λ _. ⌜ (now (next .exit) ≡ take (length (now (next .entry))) (nexts (now (nodes .entry)))) × (now (prev .exit) ≡ take (length (now (next .entry))) (prevs (now (nodes .entry)))) × (now (ts .exit) ≡ take (length (now (next .entry))) (tss (now (nodes .entry)))) ⌝ }
+{
+    let mut i: usize = 0;
+    while i < next.len() {
+        let n = nodes[i];
+        next[i] = n.next;
+        prev[i] = n.prev;
+        ts[i] = n.ts;
+        i += 1;
+    }
+}
+
+// Writes the first nodes, each with its fields from the flat slices; the others stay.
+pub fn scatter(nodes: &mut [Node], next: &[u32], prev: &[u32], ts: &[u64])
+    requires { ⌜ FlatRoom (now nodes) (now next) (now prev) (now ts) ⌝ }
+    ensures { λ _. ⌜ (nexts (now (nodes .exit)) ≡ now (next .entry) ++ drop (length (now (next .entry))) (nexts (now (nodes .entry)))) × (prevs (now (nodes .exit)) ≡ now (prev .entry) ++ drop (length (now (next .entry))) (prevs (now (nodes .entry)))) × (tss (now (nodes .exit)) ≡ now (ts .entry) ++ drop (length (now (next .entry))) (tss (now (nodes .entry)))) ⌝ }
+{
+    let mut i: usize = 0;
+    while i < next.len() {
+        nodes[i] = Node {
+            next: next[i],
+            prev: prev[i],
+            ts: ts[i],
+        };
+        i += 1;
+    }
+}

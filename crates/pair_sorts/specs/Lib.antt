@@ -1,2 +1,0 @@
--- What the steps of the two sorts do.
-pub mod Steps

@@ -1,2 +1,0 @@
--- What a partition does.
-pub mod Parting

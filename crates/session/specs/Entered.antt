@@ -1,0 +1,119 @@
+-- What holds of the entry points in either mode: on good memory a checked call is the call, from any other it is refused, and where it is
+-- accepted it leaves a good session; and what an accepted creation makes.
+use Prim.Native.Nat.{ℕ, _≤_}
+use mathlib.Core.Path.{_≡_}
+use mathlib.Core.Logic.{_↔_}
+use mathlib.Core.Bool.{Bool, true}
+use mathlib.Core.Option.{none}
+use mathlib.Core.List.{List}
+use borrow.Author.Tests.{eq-eqb}
+use lib.ListN.{length}
+use Rattle.laws.specs.Tests.{and-both}
+use Rattle.lit.specs.Numbers.{maxVars}
+use Rattle.formula.specs.Clauses.{clausesOk}
+use Rattle.formula.specs.Good.{GoodClauses, clauses-facts}
+use Rattle.trail.specs.Memory.{Sized}
+use Rattle.trail.specs.Good.{GoodTrail}
+use Rattle.book.specs.Calls.{Call}
+use Rattle.book.specs.Chooser.{Operations}
+use Rattle.book.specs.Session.{done, status, leaves, Session, fresh, call}
+use Rattle.session.specs.Asked.{Asked, asked}
+use Rattle.session.specs.Checks.{stateRefusal, size-passed, state-passed, passed-none, size-accepted, accepted, size-zero, checked-zero}
+use Rattle.session.specs.Mode.{scratchLengths, Mode, lengthsOk, entered, made}
+use Rattle.session.specs.Sizes.{both, Sizes, sizes-right, right-sizes}
+
+-- What a mode owes: which sessions are good, that the check passes exactly these, and that every call keeps them.
+pub record Sound (n m : ℕ) (M : Mode) (lits ends : List ℕ) : Type 1 where
+  pub Good : Session n m (M .ops) → Type 0
+  -- what the types of the lent slices say of the chooser's memory
+  pub Typed : M .ops .State → Type 0
+  pub right : (s : Session n m (M .ops)) → n ≤ maxVars → length ends ≡ m → GoodClauses n lits ends → Sized n (s .trail) → M .lengths (s .chooser) ≡ true
+      → Typed (s .chooser) → (M .state (s .trail) (s .chooser) ≡ true) ↔ Good s
+  pub trail : (s : Session n m (M .ops)) → Good s → GoodTrail n m (s .trail)
+  pub chooser-sized : (s : Session n m (M .ops)) → Good s → M .lengths (s .chooser) ≡ true
+  pub chooser-typed : (s : Session n m (M .ops)) → Good s → Typed (s .chooser)
+  pub fresh-good : n ≤ maxVars → length ends ≡ m → GoodClauses n lits ends → Good (fresh n m (M .ops))
+  pub kept : (s : Session n m (M .ops)) → Good s → (c : Call) → Good (leaves s (call n m (M .ops) s c))
+
+-- 'for a group's scratch the group's length'
+pub record RightScratch (a : Asked) : Type 0 where
+  pub stamps-long : length (a .stamps) ≡ length (a .vars)
+  pub order-long : length (a .order) ≡ length (a .vars)
+
+-- what an accepted creation shows of the sizes and the clause list that it was lent
+pub record Founded (n m : ℕ) (lits ends : List ℕ) : Type 0 where
+  pub small : n ≤ maxVars
+  pub stated : length ends ≡ m
+  pub clauses : GoodClauses n lits ends
+
+-- the memory that was lent is good: the clause list with its stated counts, a group's scratch, and the session
+pub record GoodMemory {n m : ℕ} {O : Operations} (Good : Session n m O → Type 0) (lits : List ℕ) (literals : ℕ) (ends : List ℕ) (a : Asked) (s : Session n m O) : Type 0 where
+  pub founded : Founded n m lits ends
+  pub stated : length lits ≡ literals
+  pub scratch : RightScratch a
+  pub session : Good s
+
+module _ (n m : ℕ) (M : Mode) (lits : List ℕ) (literals : ℕ) (ends : List ℕ) (scratch : Bool) (s : Session n m (M .ops)) (accepted : status (made n m M lits literals ends scratch s) ≡ 0) where
+  pub made-sizes : Founded n m lits ends
+  unfolding made
+  made-sizes =
+      let p = size-passed n _ _ (size-zero n _ _ (done none (fresh n m (M .ops))) accepted) in
+      let z = sizes-right n m M lits literals ends s scratch (p .lengths-ok) in
+      record { small = p .small; stated = z .0 .ends-long; clauses = clauses-facts n lits ends .0 (p .clauses-ok) }
+
+  -- the session that it makes is the fresh one
+  pub made-fresh : leaves s (made n m M lits literals ends scratch s) ≡ fresh n m (M .ops)
+  unfolding made
+  made-fresh = rw (size-accepted n _ _ (done none (fresh n m (M .ops))) (size-zero n _ _ (done none (fresh n m (M .ops))) accepted))
+
+module _ (n m : ℕ) (M : Mode) (lits : List ℕ) (literals : ℕ) (ends : List ℕ) (L : Sound n m M lits ends) where
+  module _ (a : Asked) (s : Session n m (M .ops)) where
+    abbrev scratch : Bool
+    scratch = scratchLengths (length (a .vars)) (length (a .stamps)) (length (a .order))
+
+    -- memory without a refusal is good
+    pub admitted : L .Typed (s .chooser) → 0 ≡ stateRefusal n (lengthsOk n m M lits literals ends s scratch) (clausesOk n lits ends) (M .state (s .trail) (s .chooser)) → GoodMemory (L .Good) lits literals ends a s
+    admitted t e =
+        let p = state-passed _ _ _ _ e in
+        let z = sizes-right n m M lits literals ends s scratch (p .0 .lengths-ok) in
+        let l = both _ _ _ _ (z .1) in
+        let g = clauses-facts n lits ends .0 (p .0 .clauses-ok) in
+        record {
+          founded = record { small = p .0 .small; stated = z .0 .ends-long; clauses = g };
+          stated = z .0 .lits-long;
+          scratch = record { stamps-long = l .0; order-long = l .1 };
+          session = L .right s (p .0 .small) (z .0 .ends-long) g (z .0 .trail) (z .0 .chooser) t .0 (p .1);
+        }
+
+    -- and good memory has none
+    pub unrefused : GoodMemory (L .Good) lits literals ends a s → 0 ≡ stateRefusal n (lengthsOk n m M lits literals ends s scratch) (clausesOk n lits ends) (M .state (s .trail) (s .chooser))
+    unrefused g =
+        let f = g .founded in
+        let z : Sizes n m M lits literals ends s = record { trail = L .trail s (g .session) .lengths; chooser = L .chooser-sized s (g .session); lits-long = g .stated; ends-long = f .stated } in
+        passed-none
+        (record {
+          small = f .small;
+          lengths-ok = right-sizes n m M lits literals ends s scratch z (and-both (eq-eqb _ _ (g .scratch .stamps-long)) (eq-eqb _ _ (g .scratch .order-long)));
+          clauses-ok = clauses-facts n lits ends .1 (f .clauses);
+        })
+        (L .right s (f .small) (f .stated) (f .clauses) (z .trail) (z .chooser) (L .chooser-typed s (g .session)) .1 (g .session))
+
+    -- on good memory the checked call is the call
+    pub unchecked : GoodMemory (L .Good) lits literals ends a s → entered n m M lits literals ends a s ≡ call n m (M .ops) s (asked a)
+    unfolding entered
+    unchecked g = accepted n _ _ _ _ (unrefused g)
+
+    -- what is not refused had good memory
+    pub bad-refused : L .Typed (s .chooser) → status (entered n m M lits literals ends a s) ≡ 0 → GoodMemory (L .Good) lits literals ends a s
+    unfolding entered
+    bad-refused t e = admitted t (checked-zero n _ _ _ _ e)
+
+    -- so an accepted call leaves a good session
+    pub entered-good : L .Typed (s .chooser) → status (entered n m M lits literals ends a s) ≡ 0 → L .Good (leaves s (entered n m M lits literals ends a s))
+    entered-good t e = let g = bad-refused t e in rw (unchecked g) (L .kept s (g .session) (asked a))
+
+  -- and creation, where it is accepted, makes one
+  pub made-good : (scratch : Bool) (s : Session n m (M .ops)) → status (made n m M lits literals ends scratch s) ≡ 0 → L .Good (leaves s (made n m M lits literals ends scratch s))
+  made-good scratch s e =
+      let p = made-sizes n m M lits literals ends scratch s e in
+      rw (made-fresh n m M lits literals ends scratch s e) (L .fresh-good (p .small) (p .stated) (p .clauses))

@@ -1,0 +1,48 @@
+-- A mode of a session: its chooser, with the tests of the chooser's memory; and what the entry points answer for memory as lent.
+use Prim.Native.Nat.{ℕ}
+use mathlib.Core.Bool.{Bool, _&&_}
+use mathlib.Core.Option.{none}
+use mathlib.Core.List.{List}
+use lib.ListN.{length}
+use lib.Dec.{eqb}
+use Rattle.formula.specs.Clauses.{clausesOk}
+use Rattle.trail.specs.Trail.{Trail}
+use Rattle.book.specs.Chooser.{Operations}
+use Rattle.book.specs.Session.{Result, done, Session, fresh, call}
+use Rattle.session.specs.Asked.{Asked, asked}
+use Rattle.session.specs.Entry.{sizesChecked, checked}
+
+-- refusal 5: 'a lent slice has a length other than N'
+abbrev pub trailLengths : ℕ → Trail → Bool
+trailLengths n t = eqb (length (t .values)) n && (eqb (length (t .levels)) n && (eqb (length (t .reasons)) n && (eqb (length (t .trail)) n && eqb (length (t .opened)) n)))
+
+-- 'or for clauses the stated counts'
+abbrev pub clauseLengths : ℕ → ℕ → List ℕ → List ℕ → Bool
+clauseLengths literals clauses lits ends = eqb (length lits) literals && eqb (length ends) clauses
+
+-- 'for a group's scratch the group's length': two slices of lengths a and b are to have length k
+abbrev pub scratchLengths : ℕ → ℕ → ℕ → Bool
+scratchLengths k a b = eqb a k && eqb b k
+
+pub record Mode : Type 1 where
+  pub ops : Operations
+  -- refusal 5, of the chooser's slices
+  pub lengths : ops .State → Bool
+  -- refusal 7: 'the state breaks a fact stated above for its records'
+  pub state : Trail → ops .State → Bool
+
+-- over n variables and m clauses, with the clause list and the stated number of literals
+module _ (n m : ℕ) (M : Mode) (lits : List ℕ) (literals : ℕ) (ends : List ℕ) where
+  -- all that refusal 5 looks at; whether scratch has its lengths is known beside
+  unfoldable pub lengthsOk : Session n m (M .ops) → Bool → Bool
+  lengthsOk s scratch = trailLengths n (s .trail) && (M .lengths (s .chooser) && (clauseLengths literals m lits ends && scratch))
+
+  -- a call on the session as lent
+  unfoldable pub entered : Asked → Session n m (M .ops) → Result (Session n m (M .ops))
+  entered a s =
+      checked n (lengthsOk s (scratchLengths (length (a .vars)) (length (a .stamps)) (length (a .order)))) (clausesOk n lits ends) (M .state (s .trail) (s .chooser))
+      (call n m (M .ops) s (asked a))
+
+  -- a fresh session in the memory as lent
+  unfoldable pub made : Bool → Session n m (M .ops) → Result (Session n m (M .ops))
+  made scratch s = sizesChecked n (lengthsOk s scratch) (clausesOk n lits ends) (done none (fresh n m (M .ops)))

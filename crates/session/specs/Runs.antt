@@ -1,0 +1,142 @@
+-- Term 3 on the entry points' own definition, in either mode: runs as in `book`, of calls that are checked first, whatever each is lent with.
+-- An accepted call finds the memory good for what it is lent with, so that what every run keeps goes on over that.
+use Prim.Native.Nat.{ℕ}
+use mathlib.Core.Path.{_≡_, refl, sym, ap, subst, _∙_}
+use mathlib.Core.Bool.{Bool, false, true≢false}
+use mathlib.Core.List.{List, [], _∷_}
+use lib.Dec.{eqb}
+use lib.ListN.{length}
+use borrow.Author.Tests.{eqb-true}
+use Rattle.laws.specs.Tests.{true-or-false}
+use Rattle.book.specs.Calls.{Call}
+use Rattle.book.specs.Chooser.{Chooser}
+use Rattle.book.specs.Session.{Result, done, refuse, status, leaves, Session, fresh, call}
+use Rattle.book.specs.Claim.{Run, startingWith, begin, extended, step, run, Claim}
+use Rattle.book.proofs.Books.{length-values}
+use Rattle.book.proofs.Term3.{Inv, began, stepped, turned-down}
+use Rattle.book.proofs.OtherList.{overRun, claim-over, over-list}
+use Rattle.session.specs.Asked.{Asked, asked, Lending}
+use Rattle.session.specs.Mode.{Mode, entered, made}
+use Rattle.session.specs.Entered.{Sound, RightScratch, Founded, GoodMemory, made-sizes, made-fresh, unchecked, bad-refused}
+
+-- the clause list that is lent is good, as its counts say
+abbrev pub FoundedBy : Lending → Type 0
+FoundedBy g = Founded (g .n) (g .m) (g .lits) (g .ends)
+
+-- M g is the mode over what g lends, and `into g h c` the memory c of its chooser as memory of the one over h.
+module _ (M : Lending → Mode) (into : (g h : Lending) → M g .ops .State → M h .ops .State) where
+  -- a session over what g lends; its memory as a session over h; and a result so
+  abbrev pub SessionOver : Lending → Type 0
+  SessionOver g = Session (g .n) (g .m) (M g .ops)
+
+  abbrev pub moved : (g h : Lending) → SessionOver g → SessionOver h
+  moved g h s = record { trail = s .trail; chooser = into g h (s .chooser) }
+
+  abbrev pub resultAs : (g h : Lending) → Result (SessionOver g) → Result (SessionOver h)
+  resultAs g h (done r s) = done r (moved g h s)
+  resultAs g h (refuse k) = refuse k
+
+  -- a call that is lent with h, on the memory of a session over g
+  abbrev pub enteredWith : (g h : Lending) → Asked → SessionOver g → Result (SessionOver g)
+  enteredWith g h a s = resultAs h g (entered (h .n) (h .m) (M h) (h .lits) (h .literals) (h .ends) a (moved g h s))
+
+  unfoldable pub runLent : (g : Lending) → Run (g .n) (g .m) (M g .ops) → List (Lending × Asked) → Run (g .n) (g .m) (M g .ops)
+  runLent g r [] = r
+  runLent g r ((h, a) ∷ asks) = runLent g (extended (g .n) (g .m) (M g .ops) r (asked a) (enteredWith g h a (r .now))) asks
+
+  -- What the modes owe: the memory is the same over each, and each is sound and has a chooser, which the memory suits over each N alike
+  pub record Family : Type 1 where
+    pub self : (g : Lending) (c : M g .ops .State) → into g g c ≡ c
+    pub through : (g h k : Lending) (c : M g .ops .State) → into h k (into g h c) ≡ into g k c
+    pub switches : (g h : Lending) → M h .ops .switches ≡ M g .ops .switches
+    pub sound : (g : Lending) → Sound (g .n) (g .m) (M g) (g .lits) (g .ends)
+    pub chooser : (g : Lending) → FoundedBy g → Chooser (g .n) (g .m) (M g .ops)
+    pub typed : (g h : Lending) (f : FoundedBy g) (values : List ℕ) (on : ℕ → Bool) (c : M g .ops .State) → chooser g f .ok values on c → sound h .Typed (into g h c)
+    pub carry : (g h : Lending) (f : FoundedBy g) (f′ : FoundedBy h) → g .n ≡ h .n → (values : List ℕ) (on : ℕ → Bool) (c : M g .ops .State) → chooser g f .ok values on c → chooser h f′ .ok values on (into g h c)
+
+  module _ (F : Family) (g : Lending) where
+    -- a run over g, as one over h
+    abbrev over : (h : Lending) → Run (g .n) (g .m) (M g .ops) → Run (h .n) (h .m) (M h .ops)
+    over h r = overRun (h .n) (h .m) (M h .ops) r (into g h (r .now .chooser))
+
+    -- what every run keeps, over what the last accepted call was lent with
+    record Keeps (r : Run (g .n) (g .m) (M g .ops)) : Type 0 where
+      pub with : Lending
+      pub same : with .n ≡ g .n
+      pub founded : FoundedBy with
+      pub inv : Inv (with .n) (with .m) (M with .ops) (F .chooser with founded) (over with r)
+
+    -- the result over h, as one over g
+    settle : (h : Lending) (f : FoundedBy h) (r : Run (g .n) (g .m) (M g .ops)) (c : Call) (x : Result (SessionOver h))
+        → Inv (h .n) (h .m) (M h .ops) (F .chooser h f) (extended (h .n) (h .m) (M h .ops) (over h r) c x)
+        → Inv (h .n) (h .m) (M h .ops) (F .chooser h f) (over h (extended (g .n) (g .m) (M g .ops) r c (resultAs h g x)))
+    settle h f r c (done k u) i = rw (F .through h g h (u .chooser) ∙ F .self h (u .chooser)) i
+    settle h f r c (refuse k) i = i
+
+    refused : (h : Lending) (r : Run (g .n) (g .m) (M g .ops)) (c : Call) (x : Result (SessionOver h)) → eqb (status x) 0 ≡ false → Keeps r → Keeps (extended (g .n) (g .m) (M g .ops) r c (resultAs h g x))
+    refused h r c (done k u) z p = absurd (true≢false z)
+    refused h r c (refuse k) z p =
+        let w = p .with in
+        record { with = w; same = p .same; founded = p .founded; inv = turned-down (w .n) (w .m) (M w .ops) (F .chooser w (p .founded)) (over w r) c k z (p .inv) }
+
+    accepted : (h : Lending) (a : Asked) (r : Run (g .n) (g .m) (M g .ops)) → status (entered (h .n) (h .m) (M h) (h .lits) (h .literals) (h .ends) a (moved g h (r .now))) ≡ 0 → Keeps r
+        → Keeps (extended (g .n) (g .m) (M g .ops) r (asked a) (enteredWith g h a (r .now)))
+    unfolding step
+    accepted h a r z p =
+        let w = p .with in
+        let c = r .now .chooser in
+        let x = entered (h .n) (h .m) (M h) (h .lits) (h .literals) (h .ends) a (moved g h (r .now)) in
+        let L = F .sound h in
+        let typed : L .Typed (into g h c) = rw (F .through g w h c) at (F .typed w h (p .founded) _ _ (into g w c) (p .inv .good .ok)) in
+        let k = bad-refused (h .n) (h .m) (M h) (h .lits) (h .literals) (h .ends) L a (moved g h (r .now)) typed z in
+        let t = L .trail (moved g h (r .now)) (k .session) in
+        let e : w .n ≡ h .n = sym (length-values (w .n) _) ∙ sym (ap length (p .inv .good .holds .values)) ∙ t .lengths .values-long in
+        let i = over-list (over w r) (into g h c) e (F .switches w h) (F .chooser w (p .founded)) (F .chooser h (k .founded)) t
+        (λ values on q. rw (F .through g w h c) at (F .carry w h (p .founded) (k .founded) e values on (into g w c) q)) (p .inv) in
+        let j = stepped (h .n) (h .m) (M h .ops) (F .chooser h (k .founded)) (over h r) (asked a) i in
+        record {
+          with = h;
+          same = sym e ∙ p .same;
+          founded = k .founded;
+          inv = settle h (k .founded) r (asked a) x (rw (unchecked (h .n) (h .m) (M h) (h .lits) (h .literals) (h .ends) L a (moved g h (r .now)) k) j);
+        }
+
+    along : (r : Run (g .n) (g .m) (M g .ops)) (asks : List (Lending × Asked)) → Keeps r → Keeps (runLent g r asks)
+    unfolding runLent
+    along r [] p = p
+    along r ((h, a) ∷ asks) p =
+        let x = entered (h .n) (h .m) (M h) (h .lits) (h .literals) (h .ends) a (moved g h (r .now)) in
+        along _ asks (true-or-false (eqb (status x) 0) (λ z. accepted h a r (eqb-true (status x) 0 z) p) (λ z. refused h r (asked a) x z p))
+
+    -- Term 3 of every list of checked calls from a fresh session
+    pub lent-term3 : FoundedBy g → (asks : List (Lending × Asked)) → Claim (g .n) (g .m) (M g .ops) (runLent g (begin (g .n) (g .m) (M g .ops)) asks)
+    lent-term3 f asks =
+        let start = begin (g .n) (g .m) (M g .ops) in
+        let p = along start asks (record { with = g; same = refl; founded = f; inv = rw (F .self g (start .now .chooser)) (began (g .n) (g .m) (M g .ops) (F .chooser g f)) }) in
+        let r = runLent g start asks in
+        claim-over (over (p .with) r) (r .now .chooser) (p .same) (F .switches (p .with) g) (p .inv .claim)
+
+    -- and so from every session that an accepted creation made
+    pub made-term3 : (scratch : Bool) (s : SessionOver g) → status (made (g .n) (g .m) (M g) (g .lits) (g .literals) (g .ends) scratch s) ≡ 0
+        → (asks : List (Lending × Asked)) → let u = leaves s (made (g .n) (g .m) (M g) (g .lits) (g .literals) (g .ends) scratch s) in
+        Claim (g .n) (g .m) (M g .ops) (runLent g (startingWith (g .n) (g .m) (M g .ops) u) asks)
+    unfolding begin
+    made-term3 scratch s e asks =
+        subst (λ (u : SessionOver g). Claim (g .n) (g .m) (M g .ops) (runLent g (startingWith (g .n) (g .m) (M g .ops) u) asks))
+        (sym (made-fresh (g .n) (g .m) (M g) (g .lits) (g .literals) (g .ends) scratch s e))
+        (lent-term3 (made-sizes (g .n) (g .m) (M g) (g .lits) (g .literals) (g .ends) scratch s e) asks)
+
+-- every session of a run is good, so that a call on it, lent as it was made, is refused before its own tests only for its scratch
+module _ (n m : ℕ) (M : Mode) (lits : List ℕ) (literals : ℕ) (ends : List ℕ) (L : Sound n m M lits ends) (f : Founded n m lits ends) where
+  along-run : (r : Run n m (M .ops)) (calls : List Call) → L .Good (r .now) → L .Good ((run n m (M .ops) r calls) .now)
+  unfolding run step
+  along-run r [] g = g
+  along-run r (c ∷ calls) g = along-run _ calls (L .kept (r .now) g c)
+
+  pub run-good : (calls : List Call) → L .Good ((run n m (M .ops) (begin n m (M .ops)) calls) .now)
+  unfolding begin
+  run-good calls = along-run (begin n m (M .ops)) calls (L .fresh-good (f .small) (f .stated) (f .clauses))
+
+  pub run-unchecked : length lits ≡ literals → (calls : List Call) (a : Asked) → RightScratch a → let s = (run n m (M .ops) (begin n m (M .ops)) calls) .now in
+      entered n m M lits literals ends a s ≡ call n m (M .ops) s (asked a)
+  run-unchecked el calls a z = unchecked n m M lits literals ends L a _ (record { founded = f; stated = el; scratch = z; session = run-good calls })

@@ -1,5 +1,0 @@
--- The text of a call sheet: definitions and laws.
-pub mod Text
-pub mod Read
-pub mod Reading
-pub mod Laws

@@ -1,0 +1,38 @@
+-- `trail_tests::values_ok` meets its contract: what is known of the variables passed so far is that they pass the test, or not.
+use Prim.Native.Nat.{_≤_, _-_}
+use mathlib.Core.Path.{_≡_, refl}
+use mathlib.Core.Logic.{⊎-elim}
+use native.Mathlib.Omega.{arith}
+use borrow.Author.Needs.{needs}
+use borrow.Author.Tests.{le-leb, lt-leb}
+use lib.ListN.{length}
+use Rattle.laws.specs.Every.{every}
+use Rattle.trail_check.specs.Check.{valueOk, valuesOk}
+use Rattle.trail_check.proofs.facts.Flags.{flag-stays, flag-falls}
+use Rattle.trail_check.proofs.facts.values_ok.Statement.{statement}
+use Rattle.trail_check.proofs.facts.values_ok.Tie as tie
+
+abbrev Inv-loop : tie.InvT-loop
+Inv-loop values ok₀ v₀ ok v = (v ≤ length values) × (ok ≡ every (valueOk values) v)
+
+abbrev μ-loop : tie.MeasureT-loop
+μ-loop values ok₀ v₀ ok v = length values - v
+
+loop-holds : tie.Need-loop-holds Inv-loop μ-loop
+unfolding every
+loop-holds c = (omega arith, refl)
+
+loop-again : tie.Need-loop-again Inv-loop μ-loop
+loop-again c =
+    let l = c .before .before .before .loop in
+    let p = valueOk (c .before .before .before .before .args .values .now) in
+    (omega arith, ⊎-elim (λ w. flag-falls p (l .v) (w .1) (lt-leb _ _ (w .0 .taken))) (λ w. flag-stays p (l .v) (l .inv .1) (w .1) (le-leb _ _ (w .0 .left))) (c .if1 .came))
+
+returns : tie.Need-returns Inv-loop μ-loop
+unfolding valuesOk
+returns c = let l = c .before .loop in let e : l .v ≡ length (c .before .before .args .values .now) = omega arith in rw e at (l .inv .1)
+
+pub values-ok-spec : {M : Type 1} → statement M
+values-ok-spec =
+    tie.close
+    (tie.spec Inv-loop μ-loop loop-holds (λ c. search needs) (λ c. search needs) (λ c. search needs) loop-again returns)

@@ -1,2 +1,0 @@
--- The check of a lent trail, as tests.
-pub mod Check

@@ -1,2 +1,0 @@
--- A heap that nothing has touched.
-pub mod Untouched
