@@ -6,7 +6,7 @@ use mathlib.Core.List.{_++_}
 use native.Mathlib.Omega.{arith}
 use native.Mathlib.Decide.{ℕ-discrete}
 use borrow.Author.Tests.{ltb-true, lt-leb}
-use lib.ListN.{getD, take, replicate}
+use lib.ListN.{length, getD, take, replicate}
 use lib.Dec.{leb, ltb}
 use Rattle.laws.specs.Tests.{cond-elim}
 use Rattle.laws.specs.Some.{count-cut, count-same}
@@ -29,6 +29,8 @@ pub record WentBack (n l : ℕ) (t u : Trail) : Type 0 where
   pub opened-is : u .opened ≡ take l (t .opened) ++ replicate (n - l) NONE
   pub levels-is : u .levels ≡ t .levels
   -- the variables there keep value and reason; all others are unassigned and have none
+  pub values-long : length (u .values) ≡ n
+  pub reasons-long : length (u .reasons) ≡ n
   pub value-kept : (i : ℕ) → i < u .len → getD (u .values) (varAt t i) 0 ≡ getD (t .values) (varAt t i) 0
   pub reason-kept : (i : ℕ) → i < u .len → getD (u .reasons) (varAt t i) 0 ≡ getD (t .reasons) (varAt t i) 0
   pub value-gone : (v : ℕ) → v < n → ((i : ℕ) → i < u .len → varAt t i ≢ v) → getD (u .values) v 0 ≡ unassigned
@@ -126,6 +128,8 @@ module _ {n m l : ℕ} {t : Trail} (g : GoodTrail n m t) (h : l < t .level) wher
         trail-is = rw (k .len-is) (prefix-is n (openedAt t l) (t .trail) (backtrackTo l t .trail) NONE 0 (g .lengths .trail-long) (s .trail-long) (omega (arith, g .below l h, g .len-in)) (k .codes) (λ i b. s .trail-unused i (omega (arith, k .len-is))));
         opened-is = prefix-is n l (t .opened) (backtrackTo l t .opened) NONE 0 (g .lengths .opened-long) (k .opened-long) (omega (arith, g .level-in)) (k .opens) (k .opened-unused);
         levels-is = k .levels-is;
+        values-long = s .values-long;
+        reasons-long = s .reasons-long;
         value-kept = λ i b. rw (k .codes i (omega (arith, k .len-is))) at (s .agrees i b) ∙ sym (g .agrees i (omega (arith, k .len-is, g .below l h)));
         reason-kept = λ i b. k .reasons i (omega (arith, k .len-is));
         value-gone = λ v b f. gone v b (λ i c. f i (omega (arith, k .len-is)));

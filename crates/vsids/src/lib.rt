@@ -114,22 +114,19 @@ pub fn get_next(
     Next::Nothing(VsidsState { len, step })
 }
 
-// Adds the step to the activity of var. Strictly above 1e100 every activity and the step are scaled.
-fn add_step(activity: &mut [f64], s: VsidsState, var: u32) -> VsidsState
+// Adds the step to the activity of var with one rounding, and hands the step back. Strictly above 1e100 every activity and the step are scaled.
+fn add_step(activity: &mut [f64], step: Step, var: u32) -> Step
     requires { ⌜ var < length (now activity) ⌝ }
-    ensures { λ r. ⌜ ((h p : List ℕ) (d : List Bool) → vsidsOf (now (activity .exit)) h p d r ≡ spec.rescale var (spec.addStep var (vsidsOf (now (activity .entry)) h p d s))) ⌝ }
+    ensures { λ r. ⌜ ((k : ℕ) (h p : List ℕ) (d : List Bool) → vsidsOf (now (activity .exit)) h p d (record { len = k; step = r })
+        ≡ spec.rescale var (spec.addStep var (vsidsOf (now (activity .entry)) h p d (record { len = k; step = step })))) ⌝ }
 {
-    let step = s.step;
     let inc = step.inc;
     activity[var as usize] = activity[var as usize] + inc;
     if activity[var as usize] > LIMIT {
         activity::scale_all(activity);
-        return VsidsState {
-            len: s.len,
-            step: step.scaled(),
-        };
+        return step.scaled();
     }
-    s
+    step
 }
 
 // Raises the activity of var by the step, and moves var up if it is a member.
@@ -145,11 +142,12 @@ pub fn bump_variable(
     requires { ⌜ var < length (now activity) ⌝ }
     ensures { λ r. ⌜ ((d : List Bool) → vsidsOf (now (activity .exit)) (now (heap .exit)) (now (indices .exit)) d r ≡ spec.bumpVariable var (vsidsOf (now (activity .entry)) (now (heap .entry)) (now (indices .entry)) d s)) ⌝ }
 {
-    let raised = add_step(activity, s, var);
+    let len = s.len;
+    let step = add_step(activity, s.step, var);
     if heap::members::in_heap(indices, var) {
         heap::members::decrease(activity, heap, indices, var);
     }
-    raised
+    VsidsState { len, step }
 }
 
 // Bumps the variable of each literal of a reason clause but the first, in order.
