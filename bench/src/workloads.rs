@@ -129,6 +129,15 @@ pub fn uses() -> Vec<Workload> {
     ]
 }
 
+/// As many bumps as variables, then every variable decided, then all undone. Random variables are bumped, and last variable 0: the search of list mode
+/// begins there, and finds what stands behind it alone.
+fn round(num_vars: usize, mode: &str) -> String {
+    let bump = if mode == "vsids" { "b" } else { "f" };
+    let mut rng = Rng::new(8);
+    let bumps: String = (1..num_vars).map(|_| numbers(bump, 1, num_vars, &mut rng)).collect();
+    heading(num_vars, mode) + &bumps + bump + "\t0\n" + &"g\t1\n".repeat(num_vars) + "k\t0\n"
+}
+
 /// A session made with as many clauses as variables.
 fn made_with_clauses(num_vars: usize, mode: &str) -> String {
     let mut rng = Rng::new(6);
@@ -151,5 +160,7 @@ pub fn growth() -> Vec<Workload> {
     add("heap session", &sizes, &|n| heap_session(n, MAX_SHEET));
     add("list session", &sizes, &|n| list_session(n, MAX_SHEET));
     add("one group of N", &[3, 16, 64, 256, 1024, 2048], &|n| heading(n, "vmtf") + &numbers("f", n, n, &mut Rng::new(7)));
+    add("heap round", &[16, 64, 256, 1024, 2048], &|n| round(n, "vsids"));
+    add("list round", &[16, 64, 256, 1024, 2048], &|n| round(n, "vmtf"));
     all
 }
