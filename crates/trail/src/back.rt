@@ -21,8 +21,9 @@ fn backstep(
 ) -> TrailState
     requires { ⌜ Room (length (now values)) (trailOf (now values) (now levels) (now reasons) (now trail) (now opened) s) ⌝ }
     requires { ⌜ 0 < s .len ⌝ }
-    ensures { λ r. ⌜ trailOf (now (values .exit)) (now (levels .entry)) (now (reasons .exit)) (now (trail .exit)) (now (opened .entry)) r
-        ≡ spec.backstep (trailOf (now (values .entry)) (now (levels .entry)) (now (reasons .entry)) (now (trail .entry)) (now (opened .entry)) s) ⌝ }
+    ensures { λ r. let before = trailOf (now (values .entry)) (now (levels .entry)) (now (reasons .entry)) (now (trail .entry)) (now (opened .entry)) s
+        in let after = trailOf (now (values .exit)) (now (levels .entry)) (now (reasons .exit)) (now (trail .exit)) (now (opened .entry)) r
+        in ⌜ after ≡ spec.backstep before ⌝ }
 {
     let at = (s.len - 1) as usize;
     let v = lit::index(trail[at]) as usize;
@@ -48,8 +49,9 @@ fn backsteps(
 ) -> TrailState
     requires { ⌜ Room (length (now values)) (trailOf (now values) (now levels) (now reasons) (now trail) (now opened) s) ⌝ }
     requires { ⌜ k ≤ s .len ⌝ }
-    ensures { λ r. ⌜ trailOf (now (values .exit)) (now (levels .entry)) (now (reasons .exit)) (now (trail .exit)) (now (opened .entry)) r
-        ≡ spec.backsteps k (trailOf (now (values .entry)) (now (levels .entry)) (now (reasons .entry)) (now (trail .entry)) (now (opened .entry)) s) ⌝ }
+    ensures { λ r. let before = trailOf (now (values .entry)) (now (levels .entry)) (now (reasons .entry)) (now (trail .entry)) (now (opened .entry)) s
+        in let after = trailOf (now (values .exit)) (now (levels .entry)) (now (reasons .exit)) (now (trail .exit)) (now (opened .entry)) r
+        in ⌜ after ≡ spec.backsteps k before ⌝ }
 {
     let mut t = s;
     let mut i = 0;
@@ -91,8 +93,9 @@ pub fn backtrack_to(
 ) -> TrailState
     requires { ⌜ Levelled (length (now values)) (trailOf (now values) (now levels) (now reasons) (now trail) (now opened) s) ⌝ }
     requires { ⌜ level < s .level ⌝ }
-    ensures { λ r. ⌜ trailOf (now (values .exit)) (now (levels .entry)) (now (reasons .exit)) (now (trail .exit)) (now (opened .exit)) r
-        ≡ spec.backtrackTo level (trailOf (now (values .entry)) (now (levels .entry)) (now (reasons .entry)) (now (trail .entry)) (now (opened .entry)) s) ⌝ }
+    ensures { λ r. let before = trailOf (now (values .entry)) (now (levels .entry)) (now (reasons .entry)) (now (trail .entry)) (now (opened .entry)) s
+        in let after = trailOf (now (values .exit)) (now (levels .entry)) (now (reasons .exit)) (now (trail .exit)) (now (opened .exit)) r
+        in ⌜ after ≡ spec.backtrackTo level before ⌝ }
 {
     let how_many = s.len - opened[level as usize];
     let t = backsteps(values, levels, reasons, trail, opened, s, how_many);
@@ -115,8 +118,9 @@ pub fn backtrack_safe(
     level: u32,
 ) -> TrailState
     requires { ⌜ Levelled (length (now values)) (trailOf (now values) (now levels) (now reasons) (now trail) (now opened) s) ⌝ }
-    ensures { λ r. ⌜ trailOf (now (values .exit)) (now (levels .entry)) (now (reasons .exit)) (now (trail .exit)) (now (opened .exit)) r
-        ≡ spec.backtrackSafe level (trailOf (now (values .entry)) (now (levels .entry)) (now (reasons .entry)) (now (trail .entry)) (now (opened .entry)) s) ⌝ }
+    ensures { λ r. let before = trailOf (now (values .entry)) (now (levels .entry)) (now (reasons .entry)) (now (trail .entry)) (now (opened .entry)) s
+        in let after = trailOf (now (values .exit)) (now (levels .entry)) (now (reasons .exit)) (now (trail .exit)) (now (opened .exit)) r
+        in ⌜ after ≡ spec.backtrackSafe level before ⌝ }
 {
     if level < s.level {
         return backtrack_to(values, levels, reasons, trail, opened, s, level);
@@ -136,8 +140,9 @@ pub fn learn_unit(
 ) -> TrailState
     requires { ⌜ Levelled (length (now values)) (trailOf (now values) (now levels) (now reasons) (now trail) (now opened) s) ⌝ }
     requires { ⌜ RoomFor (length (now values)) (lits.index code) (spec.backtrackSafe 0 (trailOf (now values) (now levels) (now reasons) (now trail) (now opened) s)) ⌝ }
-    ensures { λ r. ⌜ trailOf (now (values .exit)) (now (levels .exit)) (now (reasons .exit)) (now (trail .exit)) (now (opened .exit)) r
-        ≡ spec.learnUnit code (trailOf (now (values .entry)) (now (levels .entry)) (now (reasons .entry)) (now (trail .entry)) (now (opened .entry)) s) ⌝ }
+    ensures { λ r. let before = trailOf (now (values .entry)) (now (levels .entry)) (now (reasons .entry)) (now (trail .entry)) (now (opened .entry)) s
+        in let after = trailOf (now (values .exit)) (now (levels .exit)) (now (reasons .exit)) (now (trail .exit)) (now (opened .exit)) r
+        in ⌜ after ≡ spec.learnUnit code before ⌝ }
 {
     let t = backtrack_safe(values, levels, reasons, trail, opened, s, 0);
     crate::enq_assignment(values, levels, reasons, trail, opened, t, code, NONE)

@@ -39,7 +39,8 @@ pub fn new_trail(
     opened: &mut [u32],
 ) -> TrailState
     requires { ⌜ Lengths (length (now values)) (now values) (now levels) (now reasons) (now trail) (now opened) ⌝ }
-    ensures { λ r. ⌜ trailOf (now (values .exit)) (now (levels .exit)) (now (reasons .exit)) (now (trail .exit)) (now (opened .exit)) r ≡ spec.freshTrail (length (now (values .entry))) ⌝ }
+    ensures { λ r. let after = trailOf (now (values .exit)) (now (levels .exit)) (now (reasons .exit)) (now (trail .exit)) (now (opened .exit)) r
+        in ⌜ after ≡ spec.freshTrail (length (now (values .entry))) ⌝ }
 {
     lit::new_assignments(values);
     fill_none(levels);
@@ -65,8 +66,9 @@ pub fn enq_assignment(
     reason: u32,
 ) -> TrailState
     requires { ⌜ RoomFor (length (now values)) (lits.index code) (trailOf (now values) (now levels) (now reasons) (now trail) (now opened) s) ⌝ }
-    ensures { λ r. ⌜ trailOf (now (values .exit)) (now (levels .exit)) (now (reasons .exit)) (now (trail .exit)) (now (opened .entry)) r
-        ≡ spec.enqAssignment code reason (trailOf (now (values .entry)) (now (levels .entry)) (now (reasons .entry)) (now (trail .entry)) (now (opened .entry)) s) ⌝ }
+    ensures { λ r. let before = trailOf (now (values .entry)) (now (levels .entry)) (now (reasons .entry)) (now (trail .entry)) (now (opened .entry)) s
+        in let after = trailOf (now (values .exit)) (now (levels .exit)) (now (reasons .exit)) (now (trail .exit)) (now (opened .entry)) r
+        in ⌜ after ≡ spec.enqAssignment code reason before ⌝ }
 {
     let v = lit::index(code) as usize;
     let at = s.len as usize;
@@ -94,8 +96,9 @@ pub fn enq_decision(
 ) -> TrailState
     requires { ⌜ RoomFor (length (now values)) v (trailOf (now values) (now levels) (now reasons) (now trail) (now opened) s) ⌝ }
     requires { ⌜ (s .level < length (now values)) × (p < 2) ⌝ }
-    ensures { λ r. ⌜ trailOf (now (values .exit)) (now (levels .exit)) (now (reasons .entry)) (now (trail .exit)) (now (opened .exit)) r
-        ≡ spec.enqDecision v p (trailOf (now (values .entry)) (now (levels .entry)) (now (reasons .entry)) (now (trail .entry)) (now (opened .entry)) s) ⌝ }
+    ensures { λ r. let before = trailOf (now (values .entry)) (now (levels .entry)) (now (reasons .entry)) (now (trail .entry)) (now (opened .entry)) s
+        in let after = trailOf (now (values .exit)) (now (levels .exit)) (now (reasons .entry)) (now (trail .exit)) (now (opened .exit)) r
+        in ⌜ after ≡ spec.enqDecision v p before ⌝ }
 {
     let i = v as usize;
     let at = s.len as usize;

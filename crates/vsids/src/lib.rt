@@ -75,7 +75,8 @@ pub fn new(
 ) -> VsidsState
     requires { ⌜ length (now activity) ≤ maxVars ⌝ }
     requires { ⌜ (length (now heap) ≡ length (now activity)) × ((length (now indices) ≡ length (now activity)) × (length (now decision) ≡ length (now activity))) ⌝ }
-    ensures { λ r. ⌜ vsidsOf (now (activity .exit)) (now (heap .exit)) (now (indices .exit)) (now (decision .exit)) r ≡ spec.new (length (now (activity .entry))) ⌝ }
+    ensures { λ r. let after = vsidsOf (now (activity .exit)) (now (heap .exit)) (now (indices .exit)) (now (decision .exit)) r
+        in ⌜ after ≡ spec.new (length (now (activity .entry))) ⌝ }
 {
     fill_fresh(activity, decision);
     all_members(heap, indices)
@@ -100,7 +101,9 @@ pub fn get_next(
 ) -> Next
     requires { ⌜ Room (length (now activity)) (s .len) (placesOf (now heap) (now indices)) ⌝ }
     requires { ⌜ (length (now values) ≡ length (now activity)) × (length (now decision) ≡ length (now activity)) ⌝ }
-    ensures { λ r. ⌜ foundOf (now (activity .entry)) (now (heap .exit)) (now (indices .exit)) (now (decision .entry)) r ≡ spec.getNext (now (values .entry)) (vsidsOf (now (activity .entry)) (now (heap .entry)) (now (indices .entry)) (now (decision .entry)) s) ⌝ }
+    ensures { λ r. let before = vsidsOf (now (activity .entry)) (now (heap .entry)) (now (indices .entry)) (now (decision .entry)) s
+        in let found = foundOf (now (activity .entry)) (now (heap .exit)) (now (indices .exit)) (now (decision .entry)) r
+        in ⌜ found ≡ spec.getNext (now (values .entry)) before ⌝ }
 {
     let step = s.step;
     let mut len = s.len;
@@ -140,7 +143,9 @@ pub fn bump_variable(
     requires { ⌜ Room (length (now activity)) (s .len) (placesOf (now heap) (now indices)) ⌝ }
     requires { ⌜ Placed (length (now activity)) (s .len) (now indices) ⌝ }
     requires { ⌜ var < length (now activity) ⌝ }
-    ensures { λ r. ⌜ ((d : List Bool) → vsidsOf (now (activity .exit)) (now (heap .exit)) (now (indices .exit)) d r ≡ spec.bumpVariable var (vsidsOf (now (activity .entry)) (now (heap .entry)) (now (indices .entry)) d s)) ⌝ }
+    ensures { λ r. ⌜ ((d : List Bool) → let before = vsidsOf (now (activity .entry)) (now (heap .entry)) (now (indices .entry)) d s
+        in let after = vsidsOf (now (activity .exit)) (now (heap .exit)) (now (indices .exit)) d r
+        in after ≡ spec.bumpVariable var before) ⌝ }
 {
     let len = s.len;
     let step = add_step(activity, s.step, var);
@@ -161,7 +166,9 @@ pub fn bump_reason_literals(
     requires { ⌜ Room (length (now activity)) (s .len) (placesOf (now heap) (now indices)) ⌝ }
     requires { ⌜ Placed (length (now activity)) (s .len) (now indices) ⌝ }
     requires { ⌜ ((i : ℕ) → i < length (now clause) → index (getD (now clause) i 0) < length (now activity)) ⌝ }
-    ensures { λ r. ⌜ ((d : List Bool) → vsidsOf (now (activity .exit)) (now (heap .exit)) (now (indices .exit)) d r ≡ spec.bumpReasonLiterals (now (clause .entry)) (vsidsOf (now (activity .entry)) (now (heap .entry)) (now (indices .entry)) d s)) ⌝ }
+    ensures { λ r. ⌜ ((d : List Bool) → let before = vsidsOf (now (activity .entry)) (now (heap .entry)) (now (indices .entry)) d s
+        in let after = vsidsOf (now (activity .exit)) (now (heap .exit)) (now (indices .exit)) d r
+        in after ≡ spec.bumpReasonLiterals (now (clause .entry)) before) ⌝ }
 {
     let mut state = s;
     let mut i = 1;
@@ -184,7 +191,9 @@ pub fn insert(
     requires { ⌜ Room (length (now activity)) (s .len) (placesOf (now heap) (now indices)) ⌝ }
     requires { ⌜ (var < length (now activity)) × (length (now decision) ≡ length (now activity)) ⌝ }
     requires { ⌜ (inHeap (now indices) var ≡ false → s .len < length (now activity)) ⌝ }
-    ensures { λ r. ⌜ vsidsOf (now (activity .entry)) (now (heap .exit)) (now (indices .exit)) (now (decision .entry)) r ≡ spec.insert var (vsidsOf (now (activity .entry)) (now (heap .entry)) (now (indices .entry)) (now (decision .entry)) s) ⌝ }
+    ensures { λ r. let before = vsidsOf (now (activity .entry)) (now (heap .entry)) (now (indices .entry)) (now (decision .entry)) s
+        in let after = vsidsOf (now (activity .entry)) (now (heap .exit)) (now (indices .exit)) (now (decision .entry)) r
+        in ⌜ after ≡ spec.insert var before ⌝ }
 {
     let step = s.step;
     let mut len = s.len;
