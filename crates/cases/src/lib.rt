@@ -1,1 +1,1 @@
-// No code: cases A to L of document 01 are computed from the definitions, in specs/.
+// No code: cases A to L, computed: those of document 01, from the definitions, in specs/.

@@ -1,1 +1,1 @@
-// No code: the heap and the list as choosers of the book are in specs/.
+// No code: heap and list under term 3: as choosers of the book they are in specs/.

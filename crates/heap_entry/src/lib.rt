@@ -1,4 +1,4 @@
-// The entry point of a session's calls in heap mode. It checks the memory that was lent, and asks nothing of its callers.
+// The entry points in heap mode: a session's calls, and its creation. They check the memory that was lent, and ask nothing of their callers.
 ghost use mathlib.Core.Path.{_≡_};
 ghost use Rattle.formula.specs.Clauses.{clausesOk};
 ghost use Rattle.trail.specs.Memory.{trailOf};

@@ -1,4 +1,4 @@
-// The calls of a session in heap mode: the trail and the heap of VSIDS over lent slices, by subject.
+// The calls in heap mode: the trail and the heap of VSIDS over lent slices, by subject.
 ghost use mathlib.Core.Path.{_≡_};
 ghost use Rattle.lit.specs.Numbers as number;
 ghost use Rattle.heap_session.specs.Memory.{answer};

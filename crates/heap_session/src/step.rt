@@ -152,5 +152,5 @@ pub fn check_state(
     if !trail_check::check_trail(m, values, levels, reasons, trail, opened, t) {
         return false;
     }
-    vsids::check::check_heap(values, activity, heap, indices, decision, h)
+    vsids::heap_check::check_heap(values, activity, heap, indices, decision, h)
 }

@@ -1,4 +1,4 @@
-// The entry point of a session's calls in list mode. It checks the memory that was lent, and asks nothing of its callers.
+// The entry points in list mode: a session's calls, and its creation. They check the memory that was lent, and ask nothing of their callers.
 ghost use mathlib.Core.Path.{_≡_};
 ghost use Prim.Native.Nat.{_≤_};
 ghost use lib.ListN.{length};

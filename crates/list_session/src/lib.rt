@@ -1,4 +1,4 @@
-// The calls of a session in list mode, the trail and the move-to-front list over lent slices, each with what it answers.
+// The calls in list mode: the trail and the move-to-front list over lent slices, each call with what it answers.
 ghost use mathlib.Core.Path.{_≡_};
 ghost use mathlib.Core.Bool.{cond};
 ghost use mathlib.Core.List.{List};

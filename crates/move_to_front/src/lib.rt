@@ -1,4 +1,4 @@
-// The moves of variables to the front of the move-to-front list, one by one and as a group.
+// How the list is made and moved: the moves of variables to the front of the move-to-front list, one by one and as a group.
 mod order;
 
 ghost use mathlib.Core.Path.{_≡_};

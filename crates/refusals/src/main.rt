@@ -1,4 +1,4 @@
-// Tries refusals 4 to 14 at the entry points, in each mode where they can come, each on a small memory of its own. A line for each: a
+// Each refusal, tried once: 4 to 14 at the entry points, in each mode where they can come, each on a small memory of its own. A line for each: a
 // letter (h and l for calls in heap and list mode, n and m for creation), the refusal that is due, the status and the reply.
 use activity::Step;
 use heap_session::HeapState;

@@ -1,4 +1,4 @@
-// The calls of a session, and the tests of arguments that both modes share.
+// What both modes share: the calls of a session, and the tests of arguments.
 ghost use mathlib.Core.Path.{_≡_};
 ghost use Prim.Native.Nat.{ℕ};
 ghost use Rattle.book.specs.Chooser.{below, goodReason};

@@ -1,4 +1,4 @@
-// Reads a call sheet on standard input and writes its answers, or refusal 1 or 2 alone on a line. Of a sheet that is too long it reads
+// The program: reads a call sheet on standard input and writes its answers, or refusal 1 or 2 alone on a line. Of a sheet that is too long it reads
 // 65,536 bytes, which tell.
 use libc::STDERR_FILENO;
 use libc::STDIN_FILENO;

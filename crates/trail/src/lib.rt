@@ -1,4 +1,4 @@
-// The trail of trail.rs over lent slices of length N: for each variable its value, level and reason; the literals on the
+// The trail of trail.rs: steps, going back. Over lent slices of length N: for each variable its value, level and reason; the literals on the
 // trail; and for each opened level the trail's length before its decision. Unused places hold NONE.
 // A slice that a function leaves alone is passed as `&`, so that its contract names the whole trail.
 ghost use mathlib.Core.Path.{_≡_};

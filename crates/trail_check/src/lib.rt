@@ -1,4 +1,4 @@
-// The trail's check, for memory that was lent: nothing is known of it but the slices' lengths.
+// The check of a lent trail: nothing is known of it but the slices' lengths.
 ghost use mathlib.Core.Path.{_≡_};
 ghost use mathlib.Core.Bool.{true, _&&_};
 ghost use Prim.Native.Nat.{ℕ, _≤_, _<_};

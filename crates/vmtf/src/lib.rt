@@ -1,5 +1,5 @@
-// The move-to-front list of variables, from `VMTF` in decision.rs, over lent slices: for each variable the one after it, the one before
-// it and its stamp. Here are what a decide finds in it and its check; `vmtf_new` makes it and `vmtf_moves` moves variables in it.
+// The list chooser: JigSAT's `VMTF` over lent slices: for each variable the one after it, the one before
+// it and its stamp. Here are what a decide finds in it and its check; `move_to_front` makes it and moves variables in it.
 ghost use mathlib.Core.Path.{_≡_};
 ghost use mathlib.Core.List.{List};
 ghost use Prim.Native.Nat.{ℕ, _<_, _≤_};

@@ -19,7 +19,7 @@ ghost use Rattle.vsids.specs.Vsids as spec;
 ghost use Rattle.vsids.specs.Vsids.{vsidsOf, foundOf};
 ghost use Rattle.vsids.specs.declared.VsidsState.{VsidsState};
 
-pub mod check;
+pub mod heap_check;
 
 // How many members the heap has, and the step.
 pub struct VsidsState {

@@ -9,9 +9,9 @@ use lib.Dec.{eqb}
 use lib.ListN.{length}
 use Rattle.laws.specs.Every.{every}
 use Rattle.vsids.specs.Untouched.{activityWithin}
-use Rattle.vsids.proofs.check.Branches.{passes-uncounted, failure-counted}
-use Rattle.vsids.proofs.check.activities_within.Statement.{statement}
-use Rattle.vsids.proofs.check.activities_within.Tie as tie
+use Rattle.vsids.proofs.heap_check.Branches.{passes-uncounted, failure-counted}
+use Rattle.vsids.proofs.heap_check.activities_within.Statement.{statement}
+use Rattle.vsids.proofs.heap_check.activities_within.Tie as tie
 
 abbrev Inv-loop : tie.InvT-loop
 Inv-loop hi activity outside₀ v₀ outside v = (v ≤ length activity) × (outside ≤ v) × (eqb outside 0 ≡ every (activityWithin hi activity) v)

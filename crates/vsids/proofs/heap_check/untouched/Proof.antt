@@ -9,8 +9,8 @@ use borrow.Author.Tests.{not-true, not-false, eq-eqb, ne-eqb}
 use Rattle.laws.specs.Every.{every}
 use Rattle.activity.specs.Doubles.{zeroActivity}
 use Rattle.vsids.specs.Untouched.{activityWithin, untouched}
-use Rattle.vsids.proofs.check.untouched.Statement.{statement}
-use Rattle.vsids.proofs.check.untouched.Tie as tie
+use Rattle.vsids.proofs.heap_check.untouched.Statement.{statement}
+use Rattle.vsids.proofs.heap_check.untouched.Tie as tie
 
 -- a test of the activities that fails says that one is above 0
 above-zero : {r : Bool} (activity : List Float) → r ≡ every (activityWithin zeroActivity activity) (length activity) → r ≡ false → every (activityWithin zeroActivity activity) (length activity) ≡ false

@@ -9,9 +9,9 @@ use lib.Dec.{eqb}
 use lib.ListN.{length}
 use Rattle.laws.specs.Every.{every}
 use Rattle.vsids.specs.Untouched.{ownPlace}
-use Rattle.vsids.proofs.check.Branches.{passes-uncounted, failure-counted}
-use Rattle.vsids.proofs.check.in_order.Statement.{statement}
-use Rattle.vsids.proofs.check.in_order.Tie as tie
+use Rattle.vsids.proofs.heap_check.Branches.{passes-uncounted, failure-counted}
+use Rattle.vsids.proofs.heap_check.in_order.Statement.{statement}
+use Rattle.vsids.proofs.heap_check.in_order.Tie as tie
 
 abbrev Inv-loop : tie.InvT-loop
 Inv-loop a moved₀ i₀ moved i = (i ≤ length a) × (moved ≤ i) × (eqb moved 0 ≡ every (ownPlace a) i)

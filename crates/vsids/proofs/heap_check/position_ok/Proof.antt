@@ -1,9 +1,9 @@
 -- `position_ok` meets its contract: each branch is one of the test's.
 use native.Mathlib.Omega.{arith}
 use borrow.Author.Needs.{needs}
-use Rattle.vsids.proofs.check.Branches.{position-none, position-past, position-own}
-use Rattle.vsids.proofs.check.position_ok.Statement.{statement}
-use Rattle.vsids.proofs.check.position_ok.Tie as tie
+use Rattle.vsids.proofs.heap_check.Branches.{position-none, position-past, position-own}
+use Rattle.vsids.proofs.heap_check.position_ok.Statement.{statement}
+use Rattle.vsids.proofs.heap_check.position_ok.Tie as tie
 
 returns : tie.Need-returns
 returns c = rw (c .is-open .ensures) (position-none _ _ _ (c .before .if1 .taken))
