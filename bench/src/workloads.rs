@@ -138,6 +138,12 @@ fn round(num_vars: usize, mode: &str) -> String {
     heading(num_vars, mode) + &bumps + bump + "\t0\n" + &"g\t1\n".repeat(num_vars) + "k\t0\n"
 }
 
+/// All variables decided and undone in list mode, then decides alone, each refused by 14: search has passed what is open.
+fn past_open(num_vars: usize) -> String {
+    let first = heading(num_vars, "vmtf") + &"g\t1\n".repeat(num_vars) + "k\t0\n";
+    fill(first, MAX_SHEET, || "g\t1\n".into())
+}
+
 /// A session made with as many clauses as variables.
 fn made_with_clauses(num_vars: usize, mode: &str) -> String {
     let mut rng = Rng::new(6);
@@ -162,5 +168,6 @@ pub fn growth() -> Vec<Workload> {
     add("one group of N", &[3, 16, 64, 256, 1024, 2048], &|n| heading(n, "vmtf") + &numbers("f", n, n, &mut Rng::new(7)));
     add("heap round", &[16, 64, 256, 1024, 2048], &|n| round(n, "vsids"));
     add("list round", &[16, 64, 256, 1024, 2048], &|n| round(n, "vmtf"));
+    add("refused by 14", &[16, 256, 2048], &past_open);
     all
 }
