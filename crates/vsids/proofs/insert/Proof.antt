@@ -1,4 +1,4 @@
--- `insert` meets its contract: a member or a variable that is off changes nothing, and `heap_members::insert` does the rest.
+-- `insert` meets its contract: a member or a variable that is off changes nothing, and `heap::members::insert` does the rest.
 use mathlib.Core.Path.{sym, _∙_}
 use mathlib.Core.Logic.{⊎-elim}
 use borrow.Author.Needs.{needs}

@@ -1,4 +1,4 @@
--- `text::digit_count` meets its contract: a number between two powers of ten has as many digits as the lower has.
+-- `forms::text::digit_count` meets its contract: a number between two powers of ten has as many digits as the lower has.
 use native.Mathlib.Omega.{arith}
 use mathlib.Core.Path.{sym, ap}
 use lib.ListN.{length}

@@ -1,4 +1,4 @@
--- `text::double` meets its contract: a pattern above an infinity's is a NaN's, and the others are read as they stand.
+-- `forms::text::double` meets its contract: a pattern above an infinity's is a NaN's, and the others are read as they stand.
 use mathlib.Core.Path.{sym, _∙_}
 use borrow.Author.Needs.{needs}
 use Rattle.forms.specs.Reading.{no-number, nan-pattern, no-nan}

@@ -1,4 +1,4 @@
--- `text::find` meets its contract: what is left holds the byte at the same place, counted from here.
+-- `forms::text::find` meets its contract: what is left holds the byte at the same place, counted from here.
 use Prim.Native.Nat.{_≤_, _+_, _-_}
 use mathlib.Core.Path.{_≡_}
 use native.Mathlib.Omega.{arith}

@@ -1,4 +1,4 @@
--- `text::hex_digit` meets its contract: a digit, a letter, or neither.
+-- `forms::text::hex_digit` meets its contract: a digit, a letter, or neither.
 use mathlib.Core.Path.{sym}
 use mathlib.Core.Logic.{⊎-elim}
 use native.Mathlib.Omega.{arith}

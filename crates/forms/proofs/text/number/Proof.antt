@@ -1,4 +1,4 @@
--- `text::number` meets its contract: the digits left still decide, read behind the number that the others gave.
+-- `forms::text::number` meets its contract: the digits left still decide, read behind the number that the others gave.
 use Prim.Native.Nat.{_≤_, _<_, _+_, _*_, _-_}
 use mathlib.Core.Path.{_≡_, _∙_, sym, ap}
 use mathlib.Core.Logic.{⊎-elim, _⊎_, inl, inr}

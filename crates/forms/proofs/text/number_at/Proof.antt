@@ -1,4 +1,4 @@
--- `text::number_at` meets its contract: what is left of the field still decides, read behind the number that its other digits gave.
+-- `forms::text::number_at` meets its contract: what is left of the field still decides, read behind the number that its other digits gave.
 use Prim.Native.Nat.{ℕ, _≤_, _<_, _+_, _*_, _-_}
 use mathlib.Core.Path.{_≡_, refl, _∙_, sym, ap}
 use mathlib.Core.Logic.{⊎-elim, _⊎_, inl, inr}

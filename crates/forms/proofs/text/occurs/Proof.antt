@@ -1,4 +1,4 @@
--- `text::occurs` meets its contract: what has been counted, and what the bytes left hold, is the whole.
+-- `forms::text::occurs` meets its contract: what has been counted, and what the bytes left hold, is the whole.
 use Prim.Native.Nat.{ℕ, _≤_, _+_, _-_}
 use mathlib.Core.Path.{_≡_}
 use mathlib.Core.List.{List}

@@ -1,4 +1,4 @@
--- `text::occurs_in_block` meets its contract: what has been counted, and what the bytes left hold, is the whole.
+-- `forms::text::occurs_in_block` meets its contract: what has been counted, and what the bytes left hold, is the whole.
 use Prim.Native.Nat.{_≤_, _+_, _-_}
 use mathlib.Core.Path.{_≡_}
 use mathlib.Core.Logic.{⊎-elim}

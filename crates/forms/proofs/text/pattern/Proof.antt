@@ -1,4 +1,4 @@
--- `text::pattern` meets its contract: the digits left still decide, read behind the bits that the others gave.
+-- `forms::text::pattern` meets its contract: the digits left still decide, read behind the bits that the others gave.
 use Prim.Native.Nat.{_≤_, _<_, _-_, _^_}
 use mathlib.Core.Path.{_≡_, _∙_, sym, ap}
 use native.Mathlib.Omega.{arith}

@@ -1,4 +1,4 @@
--- `text::put_number` meets its contract: the digits left, written before the place, still give the whole number's.
+-- `forms::text::put_number` meets its contract: the digits left, written before the place, still give the whole number's.
 use Prim.Native.Nat.{_≤_, _+_, _-_, _/_, _%_}
 use mathlib.Core.Path.{_≡_, _∙_, refl, sym, ap}
 use native.Mathlib.Omega.{arith}

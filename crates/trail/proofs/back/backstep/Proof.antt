@@ -1,4 +1,4 @@
--- `trail_back::backstep` meets its contract: each store is the definition's, and the variable read off the trail is below the lengths.
+-- `trail::back::backstep` meets its contract: each store is the definition's, and the variable read off the trail is below the lengths.
 use Prim.Native.Nat.{_<_}
 use native.Mathlib.Omega.{arith}
 use lib.ListN.{length}

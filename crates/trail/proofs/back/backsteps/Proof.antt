@@ -1,4 +1,4 @@
--- `trail_back::backsteps` meets its contract: the steps that are left lead from here to where k steps lead from the start.
+-- `trail::back::backsteps` meets its contract: the steps that are left lead from here to where k steps lead from the start.
 use Prim.Native.Nat.{_-_}
 use mathlib.Core.Path.{_≡_, sym, _∙_}
 use native.Mathlib.Nat.{sub-zero}

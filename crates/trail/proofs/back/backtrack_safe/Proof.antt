@@ -1,4 +1,4 @@
--- `trail_back::backtrack_safe` meets its contract, by the test on the level.
+-- `trail::back::backtrack_safe` meets its contract, by the test on the level.
 use borrow.Author.Tests.{lt-ltb, le-ltb}
 use Rattle.trail.specs.Trail.{backtrackSafe}
 use borrow.Author.Needs.{needs}

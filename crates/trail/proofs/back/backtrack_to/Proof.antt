@@ -1,4 +1,4 @@
--- `trail_back::backtrack_to` meets its contract: its two loops and its last line are the definition's.
+-- `trail::back::backtrack_to` meets its contract: its two loops and its last line are the definition's.
 use mathlib.Core.Path.{ap, _∙_}
 use native.Mathlib.Omega.{arith}
 use Rattle.trail.specs.Trail.{Trail, rewind}

@@ -1,4 +1,4 @@
--- `trail_back::close_levels` meets its contract: closing the levels that are left leads where closing all of them leads from the start.
+-- `trail::back::close_levels` meets its contract: closing the levels that are left leads where closing all of them leads from the start.
 use Prim.Native.Nat.{_-_}
 use mathlib.Core.Path.{_≡_, refl}
 use native.Mathlib.Omega.{arith}

@@ -1,4 +1,4 @@
--- `trail_back::learn_unit` meets its contract: the enqueue follows the going back.
+-- `trail::back::learn_unit` meets its contract: the enqueue follows the going back.
 use mathlib.Core.Path.{ap, _∙_}
 use Rattle.trail.specs.Trail.{enqAssignment, learnUnit}
 use Rattle.lit.specs.Numbers.{NONE}
