@@ -17,6 +17,7 @@ use Rattle.formula.specs.Clauses.{clauseFits, varsBelow}
 use Rattle.formula.specs.Good.{GoodClauses, clauses-facts}
 use Rattle.formula.specs.Adding.{withEnd, fits-added}
 use Rattle.book.specs.Session.{status, reply, leaves, need}
+use Rattle.forms.specs.Letters.{clauseLetter}
 use Rattle.forms.specs.Text.{newline, find}
 use Rattle.forms.specs.Forms.{Mode, vsids, vmtf, beginsClause, codesIn, given, numbers}
 use Rattle.forms.specs.Behind.{behind}
@@ -33,7 +34,7 @@ unfolding beginsClause find
 begins-front [] = refl
 begins-front (b ∷ bs) =
     true-or-false (eqb b newline)
-    (λ e. rw e (sym (ne-eqb b 99 (λ c. omega (arith, eqb-true b newline e)))))
+    (λ e. rw e (sym (ne-eqb b clauseLetter (λ c. omega (arith, eqb-true b newline e)))))
     (λ e. rw e)
 
 -- the first line that is no clause line meets the session made fresh

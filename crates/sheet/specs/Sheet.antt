@@ -14,12 +14,13 @@ use Rattle.book.specs.Calls.{Call, Line}
 use Rattle.book.specs.Chooser.{Operations}
 use Rattle.book.specs.Session.{Result, done, refuse, status, leaves, need}
 use Rattle.book.specs.Claim.{log, begin, run}
+use Rattle.forms.specs.Letters.{dash}
 use Rattle.forms.specs.Text.{tab, newline, lines, occurs, digits}
 use Rattle.forms.specs.Forms.{Mode, vsids, vmtf, Opening, callIn, beginsClause, codesIn, firstIn}
 
 -- 'else `-`, also for "none" and refusals'
 abbrev pub replyText : Option ℕ → List ℕ
-replyText none = 45 ∷ []
+replyText none = dash ∷ []
 replyText (some r) = digits r
 
 -- 'Answer line: line number from 1, status, reply.'
