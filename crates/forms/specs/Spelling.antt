@@ -6,17 +6,14 @@ use mathlib.Core.List.{List, [], _∷_, _++_, map}
 use lib.ListN.{length}
 use lib.Dec.{eqb, ltb}
 use lib.Ieee.{binary64, ofBits}
+use Rattle.laws.specs.Each.{Each}
 use Rattle.lit.specs.Numbers.{NONE, maxGroup}
 use Rattle.book.specs.Calls.{Call, bump, decay, setDecay, insert, switchOff, decide, enqueue, learnUnit, goBack, bumpReason, group}
 use Rattle.forms.specs.Letters.{bumpLetter, decayLetter, setDecayLetter, insertLetter, switchOffLetter, decideLetter, enqueueLetter, learnUnitLetter, goBackLetter, bumpReasonLetter, groupLetter, clauseLetter, firstLetter, vsidsText, vmtfText, dash, digitZero, digitA}
 use Rattle.forms.specs.Text.{tab, newline, occurs, digits}
 use Rattle.forms.specs.Forms.{Mode, vsids, vmtf, Opening}
 
--- something holds of each; a byte stands nowhere in the bytes
-abbrev pub Each : {A : Type 0} → (A → Type 0) → List A → Type 0
-Each P [] = Unit
-Each P (x ∷ l) = P x × Each P l
-
+-- a byte stands nowhere in the bytes
 abbrev pub Without : ℕ → List ℕ → Type 0
 Without b l = occurs b l ≡ 0
 

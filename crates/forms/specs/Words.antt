@@ -12,6 +12,7 @@ use borrow.Author.Tests.{eqb-true, leb-true, le-leb, lt-leb, lt-ltb, le-ltb}
 use lib.Dec.{eqb, leb}
 use lib.ListN.{length}
 use lib.Seq.{append-snoc}
+use Rattle.laws.specs.Each.{Each}
 use Rattle.laws.specs.Tests.{true-or-false, and-left, and-right, not-true}
 use Rattle.laws.specs.Choices.{or-cases}
 use Rattle.lit.specs.Numbers.{NONE}
@@ -20,7 +21,7 @@ use Rattle.forms.specs.Text.{tab, find, occurs, all, isDigit, decimal, p
 use Rattle.forms.specs.TextLaws.{occurs-found, number-digits, number-text}
 use Rattle.forms.specs.Forms.{given, numbers, is, reasonIn, Mode, vsids, vmtf, modeIn}
 use Rattle.forms.specs.Laws.{is-same, number-tab, pattern-tab, reason-tab, mode-tab}
-use Rattle.forms.specs.Spelling.{Each, Without, Whole, hexByte, hex, reasonText, modeText}
+use Rattle.forms.specs.Spelling.{Without, Whole, hexByte, hex, reasonText, modeText}
 
 -- where something was read
 pub never : {A C : Type 0} {x : A} → _≡_ {A = Option A} none (some x) → C
