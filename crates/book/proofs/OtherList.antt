@@ -16,7 +16,7 @@ use Rattle.lit.specs.Lits.{index}
 use Rattle.trail.specs.Good.{GoodTrail, IsReason}
 use Rattle.book.specs.Book.{Book, book, valuesOf, reasonsOf, counts}
 use Rattle.book.specs.Chooser.{goodReason, Operations, Chooser}
-use Rattle.book.specs.Claim.{log, recordsOf, recordsIn, NoneRight, Each, Run, Claim}
+use Rattle.book.specs.Claim.{log, recordsOf, recordsIn, NoneRight, EachEvent, Run, Claim}
 use Rattle.book.proofs.Books.{Fine, fine-nil, fine-add, length-reasons, says}
 use Rattle.book.proofs.Term3.{Moment, Inv}
 use Rattle.book.proofs.Memory.{Holds}
@@ -44,7 +44,7 @@ module _ {n m n′ m′ : ℕ} {O O′ : Operations} (r : Run n m O) (c : O′ .
   pub claim-over : Claim n m O r → Claim n′ m′ O′ (overRun n′ m′ O′ r c)
   claim-over k = record {
     told = subst (λ (j : ℕ). recordsOf (r .now .trail) ≡ recordsIn j (book (log (r .past)))) e (k .told);
-    noneRight = rw same (subst (λ (j : ℕ). Each (NoneRight j (O .switches)) (r .past)) e (k .noneRight));
+    noneRight = rw same (subst (λ (j : ℕ). EachEvent (NoneRight j (O .switches)) (r .past)) e (k .noneRight));
     backRight = k .backRight;
     unitRight = k .unitRight;
   }
@@ -59,6 +59,6 @@ module _ {n m n′ m′ : ℕ} {O O′ : Operations} (r : Run n m O) (c : O′ .
           holds = subst (λ (j : ℕ). Holds j b (r .now .trail)) e (i .good .holds);
           ok = subst (λ (j : ℕ). C′ .ok (valuesOf j b) (counts (O′ .switches) (log (r .past))) c) e (rw same (carry _ _ (i .good .ok)));
         };
-        moments = subst (λ (j : ℕ). Each (Moment j) (r .past)) e (i .moments);
+        moments = subst (λ (j : ℕ). EachEvent (Moment j) (r .past)) e (i .moments);
         claim = claim-over (i .claim);
       }

@@ -13,7 +13,7 @@ use Rattle.lit.specs.Lits.{index, polarity, new, isAssigned}
 use Rattle.book.specs.Calls.{Call, bump, decay, setDecay, insert, switchOff, decide, enqueue, learnUnit, goBack, bumpReason, group, Line}
 use Rattle.book.specs.Book.{entry, Book, written, book, valuesOf, without, switched, on, counts}
 use Rattle.book.specs.Chooser.{Tune, bumpVariable, decayVarInc, setVarDecay, bumpReasonLiterals, bumpVecOfVars, goodReason, fits, Next, chose, nothing, stuck, NextRight, IfSome, Operations, Chooser}
-use Rattle.book.specs.Session.{Result, done, refuse, status, reply, leaves, need, Session, wentBack, enqueued, withChooser, tuned, decided, call}
+use Rattle.book.specs.Session.{Result, done, refuse, leaves, logLine, need, Session, wentBack, enqueued, withChooser, tuned, decided, call}
 use Rattle.book.proofs.Books.{fine-add, says, is-unassigned}
 use Rattle.book.proofs.Memory.{enq-holds, dec-holds}
 use Rattle.book.proofs.Going.{Good, GoodAfter, went}
@@ -37,7 +37,7 @@ counts-off false v ls = refl
 
 module _ (n m : ℕ) (O : Operations) (C : Chooser n m O) where
   pub record Kept (ls : List Line) (s : Session n m O) (c : Call) (x : Result (Session n m O)) : Type 0 where
-    pub good : GoodAfter n m O C (record { call = c; status = status x; reply = reply x } ∷ ls) (leaves s x)
+    pub good : GoodAfter n m O C (logLine c x ∷ ls) (leaves s x)
 
   enqueued-good : (code reason : ℕ) {b : Book} {o : ℕ → Bool} (u : Session n m O) → Good n m O C b o u → index code < n → goodReason m reason ≡ true
       → isAssigned (u .trail .values) (index code) ≡ false → Good n m O C (entry code reason false ∷ b) o (enqueued n m O code reason u)

@@ -15,7 +15,7 @@ use Rattle.book.specs.Calls.{Call, decide, learnUnit, Line}
 use Rattle.book.specs.Book.{Book, presentLevel, back, book, openings, valuesOf}
 use Rattle.book.specs.Chooser.{Next, chose, nothing, stuck, Operations, Chooser}
 use Rattle.book.specs.Session.{done, refuse, status, reply, leaves, need, Session, fresh, wentBack, enqueued, decided, call}
-use Rattle.book.specs.Claim.{Event, Past, log, Records, recordsOf, recordsIn, SettledBy, Raises, JustBefore, here, earlier, AsThen, Each, Run, begin, extended, step, run, Claim, Term3, SettledAccepted}
+use Rattle.book.specs.Claim.{Event, Past, log, Records, recordsOf, recordsIn, SettledBy, Raises, JustBefore, here, earlier, AsThen, EachEvent, Run, begin, extended, step, run, Claim, Term3, SettledAccepted}
 use Rattle.book.proofs.Books.{length-openings, Seen, raised, over, seen, fine-nil}
 use Rattle.book.proofs.Memory.{fresh-holds, told}
 use Rattle.book.proofs.Going.{GoodAfter, went}
@@ -33,8 +33,8 @@ level-told n b t e = ap (λ (x : Records). x .level) e
 abbrev Stood : ℕ → ℕ → Past → Type 0
 Stood n l past = (t : Trail) × JustBefore l t past × (recordsOf t ≡ recordsIn n (back l (book (log past))))
 
-find : (n l : ℕ) (past : Past) → Each (Moment n) past → l < presentLevel (book (log past)) → Stood n l past
-unfolding Each
+find : (n l : ℕ) (past : Past) → EachEvent (Moment n) past → l < presentLevel (book (log past)) → Stood n l past
+unfolding EachEvent
 find n l [] ms h = absurd (unfold presentLevel book in (omega arith))
 find n l (ev ∷ past) (m, ms) h = go (seen l (ev .line) (log past) h) (find n l past ms)
   where
@@ -76,7 +76,7 @@ module _ (n m : ℕ) (O : Operations) (C : Chooser n m O) where
       go stuck q = absurd (q f)
 
   -- (c)
-  as-then : (s : Session n m O) (past : Past) → GoodAfter n m O C (log past) s → Each (Moment n) past → (l : ℕ) → l < s .trail .level
+  as-then : (s : Session n m O) (past : Past) → GoodAfter n m O C (log past) s → EachEvent (Moment n) past → (l : ℕ) → l < s .trail .level
       → AsThen l ((wentBack n m O l s) .trail) past
   as-then s past g ms l h =
       let (t, j, k) = find n l past ms (omega (arith, g .holds .opened .count, length-openings (book (log past)))) in
@@ -99,11 +99,11 @@ module _ (n m : ℕ) (O : Operations) (C : Chooser n m O) where
   -- what every run keeps: its session is good, and the claim holds of it
   pub record Inv (r : Run n m O) : Type 0 where
     pub good : GoodAfter n m O C (log (r .past)) (r .now)
-    pub moments : Each (Moment n) (r .past)
+    pub moments : EachEvent (Moment n) (r .past)
     pub claim : Claim n m O r
 
   pub began : Inv (begin n m O)
-  unfolding begin fresh Each book openings valuesOf
+  unfolding begin fresh EachEvent book openings valuesOf
   began = record {
     good = record { fine = fine-nil; holds = fresh-holds n; ok = rw (counts-nil (O .switches)) (C .start-ok) };
     moments = tt;
@@ -111,7 +111,7 @@ module _ (n m : ℕ) (O : Operations) (C : Chooser n m O) where
   }
 
   pub stepped : (r : Run n m O) (c : Call) → Inv r → Inv (step n m O r c)
-  unfolding step Each
+  unfolding step EachEvent
   stepped r c i =
       let s = r .now in
       let k : Kept n m O C (log (r .past)) s c (call n m O s c) = kept n m O C s (log (r .past)) (i .good) c in
@@ -131,7 +131,7 @@ module _ (n m : ℕ) (O : Operations) (C : Chooser n m O) where
 
   -- a call that is refused, on whatever grounds
   pub turned-down : (r : Run n m O) (c : Call) (k : ℕ) → eqb k 0 ≡ false → Inv r → Inv (extended n m O r c (refuse k))
-  unfolding Each
+  unfolding EachEvent
   turned-down r c k z i =
       let g : Kept n m O C (log (r .past)) (r .now) c (refuse k) = refused n m O C (r .now) (log (r .past)) (i .good) k z in
       let never : eqb k 0 ≡ true → ⊥ = λ a. false≢true (sym z ∙ a) in

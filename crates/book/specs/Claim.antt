@@ -12,7 +12,7 @@ use Rattle.trail.specs.Trail.{Trail, enqAssignment}
 use Rattle.book.specs.Calls.{Call, decide, learnUnit, goBack, Line, accepted}
 use Rattle.book.specs.Book.{Book, presentLevel, book, codes, openings, valuesOf, reasonsOf, levelsOf, counts}
 use Rattle.book.specs.Chooser.{Settled, Operations}
-use Rattle.book.specs.Session.{Result, status, reply, leaves, Session, fresh, call}
+use Rattle.book.specs.Session.{Result, status, leaves, logLine, Session, fresh, call}
 
 -- a call of a run: its line in the log, and the trail before and after it
 pub record Event : Type 0 where
@@ -86,9 +86,9 @@ UnitRight ev past =
     → (u : Trail) × AsThen 0 u past × (ev .after ≡ enqAssignment code NONE u)
 
 -- of each event, and the past that it had
-unfoldable pub Each : (Event → Past → Type 0) → Past → Type 0
-Each P [] = Unit {0}
-Each P (ev ∷ past) = P ev past × Each P past
+unfoldable pub EachEvent : (Event → Past → Type 0) → Past → Type 0
+EachEvent P [] = Unit {0}
+EachEvent P (ev ∷ past) = P ev past × EachEvent P past
 
 module _ (n m : ℕ) (O : Operations) where
   pub record Run : Type 0 where
@@ -107,7 +107,7 @@ module _ (n m : ℕ) (O : Operations) where
   abbrev pub extended : Run → Call → Result (Session n m O) → Run
   extended r c x = let next = leaves (r .now) x in record {
     now = next;
-    past = record { line = record { call = c; status = status x; reply = reply x }; before = r .now .trail; after = next .trail } ∷ r .past;
+    past = record { line = logLine c x; before = r .now .trail; after = next .trail } ∷ r .past;
   }
 
   unfoldable pub step : Run → Call → Run
@@ -120,9 +120,9 @@ module _ (n m : ℕ) (O : Operations) where
   -- (a), 'after the list, values, reasons, .. are those in 01's book'; (b) and (c) of each call in it
   pub record Claim (r : Run) : Type 0 where
     pub told : recordsOf (r .now .trail) ≡ recordsIn n (book (log (r .past)))
-    pub noneRight : Each (NoneRight n (O .switches)) (r .past)
-    pub backRight : Each BackRight (r .past)
-    pub unitRight : Each UnitRight (r .past)
+    pub noneRight : EachEvent (NoneRight n (O .switches)) (r .past)
+    pub backRight : EachEvent BackRight (r .past)
+    pub unitRight : EachEvent UnitRight (r .past)
 
   -- 'For every list of a session's calls .., refused ones included'
   abbrev pub Term3 : Type 0

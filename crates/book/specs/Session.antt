@@ -1,5 +1,6 @@
 -- A session: a trail and a chooser, and the eleven calls on it, with the refusals of document 01 that look at a call's arguments.
 use Prim.Native.Nat.{ℕ, _-_}
+use mathlib.Core.Path.{_≡_, refl}
 use mathlib.Core.Bool.{Bool, true, false, cond, not}
 use mathlib.Core.Option.{Option, none, some}
 use mathlib.Core.List.{List, [], _∷_}
@@ -9,7 +10,7 @@ use Rattle.lit.specs.Numbers.{NONE, noVariable, badPolarity, badReason, assigne
 use Rattle.lit.specs.Lits.{index, isAssigned}
 use Rattle.activity.specs.Step.{goodDecay}
 use Rattle.trail.specs.Trail.{Trail, freshTrail, enqAssignment, enqDecision, backtrackSafe, undone}
-use Rattle.book.specs.Calls.{Call, bump, decay, setDecay, insert, switchOff, decide, enqueue, learnUnit, goBack, bumpReason, group}
+use Rattle.book.specs.Calls.{Call, bump, decay, setDecay, insert, switchOff, decide, enqueue, learnUnit, goBack, bumpReason, group, Line}
 use Rattle.book.specs.Chooser.{bumpVariable, decayVarInc, setVarDecay, bumpReasonLiterals, bumpVecOfVars, below, goodReason, Next, chose, nothing, stuck, Operations}
 
 -- 'Every call returns 0 with its reply, or the first of these with reply NONE; then state and buffers are unchanged'
@@ -29,6 +30,28 @@ reply (refuse k) = none
 abbrev pub leaves : {S : Type 0} → S → Result S → S
 leaves s (done r u) = u
 leaves s (refuse k) = s
+
+-- what a log holds of a call that came to x
+abbrev pub logLine : {S : Type 0} → Call → Result S → Line
+logLine c x = record { call = c; status = status x; reply = reply x }
+
+-- the same result, with f of the session that is left
+abbrev pub mapped : {S T : Type 0} → (S → T) → Result S → Result T
+mapped f (done r s) = done r (f s)
+mapped f (refuse k) = refuse k
+
+module _ {S T : Type 0} (f : S → T) where
+  pub mapped-status : (x : Result S) → status (mapped f x) ≡ status x
+  mapped-status (done r s) = refl
+  mapped-status (refuse k) = refl
+
+  pub mapped-reply : (x : Result S) → reply (mapped f x) ≡ reply x
+  mapped-reply (done r s) = refl
+  mapped-reply (refuse k) = refl
+
+  pub mapped-leaves : (s : S) (x : Result S) → leaves (f s) (mapped f x) ≡ f (leaves s x)
+  mapped-leaves s (done r u) = refl
+  mapped-leaves s (refuse k) = refl
 
 -- refusal k, unless the test passes
 unfoldable pub need : {S : Type 0} → Bool → ℕ → Result S → Result S

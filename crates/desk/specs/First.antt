@@ -15,8 +15,8 @@ use Rattle.forms.specs.declared.First.the-variants as first
 use Rattle.forms.specs.Forms.{Mode, vsids, vmtf, Opening, firstIn}
 use Rattle.forms.specs.Read.{inMode, firstOf}
 use Rattle.sheet.specs.declared.Place.{Place}
-use Rattle.sheet.specs.Sheet.{answerLine, answered}
-use Rattle.sheet.specs.Stages.{reading, opening, started}
+use Rattle.sheet.specs.Sheet.{answerLine, opening, answered}
+use Rattle.sheet.specs.Stages.{reading, started}
 use Rattle.sheet.specs.Turns.{answered-turns}
 use Rattle.sheet.specs.Writing.{Wrote, put-more}
 use Rattle.sheet.specs.Bounds.{answer-short}

@@ -3,8 +3,8 @@ ghost use mathlib.Core.Path.{_≡_};
 ghost use mathlib.Core.Option.{some};
 ghost use Prim.Native.Nat.{_+_, _<_};
 ghost use Rattle.forms.specs.Text as text-spec;
-ghost use Rattle.sheet.specs.Sheet.{answered};
-ghost use Rattle.sheet.specs.Stages as spec;
+ghost use Rattle.sheet.specs.Sheet.{opening, answered};
+ghost use Rattle.sheet.specs.Stages.{started};
 ghost use Rattle.sheet.specs.Writing.{Wrote};
 ghost use Rattle.sheet.specs.Running.{linesFrom, lineLength, Room};
 ghost use Rattle.desk.specs.First.{atFirst, openingAt};
@@ -29,7 +29,7 @@ fn open(
     n: u32,
 ) -> usize
     requires { ⌜ Room (now sheet) (atFirst count) (now out) × (0 < count) × (end ≡ lineLength (now sheet) 0) ⌝ }
-    ensures { λ r. ⌜ Wrote 0 (spec.started (spec.opening (some (openingAt heap n))) (linesFrom (now (sheet .entry)) (end + 1))) (now (out .entry)) (now (out .exit)) r ⌝ }
+    ensures { λ r. ⌜ Wrote 0 (started (opening (some (openingAt heap n))) (linesFrom (now (sheet .entry)) (end + 1))) (now (out .entry)) (now (out .exit)) r ⌝ }
 {
     if n > MAX_VARS {
         return answer(out, 0, 1, MANY_VARS, NONE);

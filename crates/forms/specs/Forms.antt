@@ -8,6 +8,7 @@ use lib.Dec.{eqb, leb}
 use lib.Ieee.{binary64, ofBits}
 use Rattle.lit.specs.Numbers.{NONE, maxGroup}
 use Rattle.book.specs.Calls.{Call, bump, decay, setDecay, insert, switchOff, decide, enqueue, learnUnit, goBack, bumpReason, group}
+use Rattle.forms.specs.Letters.{bumpLetter, decayLetter, setDecayLetter, insertLetter, switchOffLetter, decideLetter, enqueueLetter, learnUnitLetter, goBackLetter, bumpReasonLetter, groupLetter, clauseLetter, firstLetter, vsidsText, vmtfText, dash}
 use Rattle.forms.specs.Text.{fields, number, pattern}
 
 -- what a line's first byte says that it is
@@ -18,19 +19,19 @@ pub data Kind : Type 0 where
 -- the rule of the table: the letters b, y, w, i, o, g, e, u, k, r, f, c and n
 unfoldable pub kindOf : ℕ → Kind
 kindOf b =
-    cond (eqb b 98) bumps (
-    cond (eqb b 121) decays (
-    cond (eqb b 119) setsDecay (
-    cond (eqb b 105) inserts (
-    cond (eqb b 111) switchesOff (
-    cond (eqb b 103) decides (
-    cond (eqb b 101) enqueues (
-    cond (eqb b 117) learnsUnit (
-    cond (eqb b 107) goesBack (
-    cond (eqb b 114) bumpsReason (
-    cond (eqb b 102) movesGroup (
-    cond (eqb b 99) isClause (
-    cond (eqb b 110) isFirst isOther))))))))))))
+    cond (eqb b bumpLetter) bumps (
+    cond (eqb b decayLetter) decays (
+    cond (eqb b setDecayLetter) setsDecay (
+    cond (eqb b insertLetter) inserts (
+    cond (eqb b switchOffLetter) switchesOff (
+    cond (eqb b decideLetter) decides (
+    cond (eqb b enqueueLetter) enqueues (
+    cond (eqb b learnUnitLetter) learnsUnit (
+    cond (eqb b goBackLetter) goesBack (
+    cond (eqb b bumpReasonLetter) bumpsReason (
+    cond (eqb b groupLetter) movesGroup (
+    cond (eqb b clauseLetter) isClause (
+    cond (eqb b firstLetter) isFirst isOther))))))))))))
 
 -- f of what was read, if something was
 abbrev pub given : {A B : Type 0} → Option A → (A → Option B) → Option B
@@ -71,7 +72,7 @@ is (b ∷ bs) (c ∷ cs) = eqb b c && is bs cs
 
 -- 'reason or `-` for NONE, the figure 4294967295 there getting 3'
 unfoldable pub reasonIn : List ℕ → Option ℕ
-reasonIn f = cond (is f (45 ∷ [])) (some NONE) (given (number f) (λ r. cond (eqb r NONE) none (some r)))
+reasonIn f = cond (is f (dash ∷ [])) (some NONE) (given (number f) (λ r. cond (eqb r NONE) none (some r)))
 
 abbrev pub enqueueIn : List ℕ → List ℕ → Option Call
 enqueueIn f g = given (number f) (λ code. given (reasonIn g) (λ reason. some (enqueue code reason)))
@@ -109,10 +110,10 @@ callIn line = lettered (λ b fs. callWith (kindOf b) fs) (fields line)
 -- 'clause lines `c` with 0 or more codes': whether a line begins with c, and its codes if it has the form
 unfoldable pub beginsClause : List ℕ → Bool
 beginsClause [] = false
-beginsClause (b ∷ bs) = eqb b 99
+beginsClause (b ∷ bs) = eqb b clauseLetter
 
 unfoldable pub codesIn : List ℕ → Option (List ℕ)
-codesIn line = lettered (λ b fs. cond (eqb b 99) (numbers fs) none) (fields line)
+codesIn line = lettered (λ b fs. cond (eqb b clauseLetter) (numbers fs) none) (fields line)
 
 -- 'First line: `n`, N, `vsids` or `vmtf`.'
 pub data Mode : Type 0 where
@@ -124,11 +125,11 @@ pub record Opening : Type 0 where
 
 unfoldable pub modeIn : List ℕ → Option Mode
 modeIn f =
-    cond (is f (118 ∷ (115 ∷ (105 ∷ (100 ∷ (115 ∷ [])))))) (some vsids) (
-    cond (is f (118 ∷ (109 ∷ (116 ∷ (102 ∷ []))))) (some vmtf) none)
+    cond (is f vsidsText) (some vsids) (
+    cond (is f vmtfText) (some vmtf) none)
 
 abbrev pub openingIn : List ℕ → List ℕ → Option Opening
 openingIn f g = given (number f) (λ n. given (modeIn g) (λ m. some (record { vars = n; mode = m })))
 
 unfoldable pub firstIn : List ℕ → Option Opening
-firstIn line = lettered (λ b fs. cond (eqb b 110) (two openingIn fs) none) (fields line)
+firstIn line = lettered (λ b fs. cond (eqb b firstLetter) (two openingIn fs) none) (fields line)

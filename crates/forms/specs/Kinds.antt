@@ -6,6 +6,7 @@ use lib.Dec.{eqb}
 use native.Mathlib.Omega.{arith}
 use borrow.Author.Tests.{eqb-true, eq-eqb}
 use Rattle.laws.specs.Tests.{cond-elim, same-test}
+use Rattle.forms.specs.Letters.{bumpLetter, decayLetter, setDecayLetter, insertLetter, switchOffLetter, decideLetter, enqueueLetter, learnUnitLetter, goBackLetter, bumpReasonLetter, groupLetter, clauseLetter, firstLetter}
 use Rattle.forms.specs.Forms.{Kind, kindOf, bumps, decays, setsDecay, inserts, switchesOff, decides, enqueues, learnsUnit, goesBack, bumpsReason, movesGroup, isClause, isFirst, isOther}
 
 -- 0 for a byte that begins no line, then the letters in the rule's order
@@ -28,19 +29,19 @@ kindNumber isFirst = 13
 -- the kind of a number
 abbrev pub ofNumber : ℕ → Kind
 ofNumber k =
-    cond (eqb k 1) bumps (
-    cond (eqb k 2) decays (
-    cond (eqb k 3) setsDecay (
-    cond (eqb k 4) inserts (
-    cond (eqb k 5) switchesOff (
-    cond (eqb k 6) decides (
-    cond (eqb k 7) enqueues (
-    cond (eqb k 8) learnsUnit (
-    cond (eqb k 9) goesBack (
-    cond (eqb k 10) bumpsReason (
-    cond (eqb k 11) movesGroup (
-    cond (eqb k 12) isClause (
-    cond (eqb k 13) isFirst isOther))))))))))))
+    cond (eqb k (kindNumber bumps)) bumps (
+    cond (eqb k (kindNumber decays)) decays (
+    cond (eqb k (kindNumber setsDecay)) setsDecay (
+    cond (eqb k (kindNumber inserts)) inserts (
+    cond (eqb k (kindNumber switchesOff)) switchesOff (
+    cond (eqb k (kindNumber decides)) decides (
+    cond (eqb k (kindNumber enqueues)) enqueues (
+    cond (eqb k (kindNumber learnsUnit)) learnsUnit (
+    cond (eqb k (kindNumber goesBack)) goesBack (
+    cond (eqb k (kindNumber bumpsReason)) bumpsReason (
+    cond (eqb k (kindNumber movesGroup)) movesGroup (
+    cond (eqb k (kindNumber isClause)) isClause (
+    cond (eqb k (kindNumber isFirst)) isFirst isOther))))))))))))
 
 pub of-number : (k : Kind) → ofNumber (kindNumber k) ≡ k
 of-number bumps = refl
@@ -60,19 +61,19 @@ of-number isOther = refl
 
 -- the letter of a kind
 abbrev pub letter : Kind → ℕ
-letter bumps = 98
-letter decays = 121
-letter setsDecay = 119
-letter inserts = 105
-letter switchesOff = 111
-letter decides = 103
-letter enqueues = 101
-letter learnsUnit = 117
-letter goesBack = 107
-letter bumpsReason = 114
-letter movesGroup = 102
-letter isClause = 99
-letter isFirst = 110
+letter bumps = bumpLetter
+letter decays = decayLetter
+letter setsDecay = setDecayLetter
+letter inserts = insertLetter
+letter switchesOff = switchOffLetter
+letter decides = decideLetter
+letter enqueues = enqueueLetter
+letter learnsUnit = learnUnitLetter
+letter goesBack = goBackLetter
+letter bumpsReason = bumpReasonLetter
+letter movesGroup = groupLetter
+letter isClause = clauseLetter
+letter isFirst = firstLetter
 letter isOther = 0
 
 module _ (b : ℕ) where
@@ -99,10 +100,10 @@ module _ (b : ℕ) where
       eq-eqb b (letter k) (all-its .at (λ o. n (sym same ∙ o)) ∙ ap letter same))
       (λ t. eq-eqb (kindNumber (kindOf b)) (kindNumber k) (ap (λ (x : ℕ). kindNumber (kindOf x)) (eqb-true b (letter k) t) ∙ ap kindNumber e))
 
-pub tells-clause : (b : ℕ) → eqb (kindNumber (kindOf b)) 12 ≡ eqb b 99
+pub tells-clause : (b : ℕ) → eqb (kindNumber (kindOf b)) (kindNumber isClause) ≡ eqb b clauseLetter
 unfolding kindOf
 tells-clause b = number-tells b isClause refl (λ e. let z : _≡_ {A = ℕ} 0 1 = cc in omega arith)
 
-pub tells-first : (b : ℕ) → eqb (kindNumber (kindOf b)) 13 ≡ eqb b 110
+pub tells-first : (b : ℕ) → eqb (kindNumber (kindOf b)) (kindNumber isFirst) ≡ eqb b firstLetter
 unfolding kindOf
 tells-first b = number-tells b isFirst refl (λ e. let z : _≡_ {A = ℕ} 0 1 = cc in omega arith)

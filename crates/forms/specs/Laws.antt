@@ -12,6 +12,7 @@ use lib.Dec.{eqb}
 use lib.ListN.{length, take, drop}
 use lib.Seq.{take-all}
 use Rattle.laws.specs.Tests.{true-or-false, and-left, and-right, and-true, and-false, not-true}
+use Rattle.forms.specs.Letters.{vsidsText, vmtfText, dash, digitZero}
 use Rattle.forms.specs.Text.{tab, find, fields, all, isDigit, isHex, plain, number, pattern}
 use Rattle.forms.specs.TextLaws.{find-length, split-found, split-last}
 use Rattle.forms.specs.Forms.{given, alone, one, two, numbers, is, reasonIn, modeIn}
@@ -72,7 +73,7 @@ plain-digits [] h = refl
 plain-digits (b ∷ []) h = rw and-true at h
 plain-digits (b ∷ (c ∷ bs)) h =
     true-or-false (isDigit b)
-    (λ t. rw (rw t at h, and-false (isDigit b && not (eqb b 48))))
+    (λ t. rw (rw t at h, and-false (isDigit b && not (eqb b digitZero))))
     (λ f. rw f)
 
 -- what reads a field takes no tab
@@ -97,8 +98,8 @@ is-tab bs cs h l = not-true (is bs cs) (λ e. let m : find tab cs < length cs = 
 
 pub reason-tab : (bs : List ℕ) → find tab bs < length bs → reasonIn bs ≡ none
 unfolding reasonIn find
-reason-tab bs l = rw (is-tab bs (45 ∷ []) (omega arith) l, number-tab bs l)
+reason-tab bs l = rw (is-tab bs (dash ∷ []) (omega arith) l, number-tab bs l)
 
 pub mode-tab : (bs : List ℕ) → find tab bs < length bs → modeIn bs ≡ none
 unfolding modeIn find
-mode-tab bs l = rw (is-tab bs (118 ∷ (115 ∷ (105 ∷ (100 ∷ (115 ∷ []))))) (omega arith) l, is-tab bs (118 ∷ (109 ∷ (116 ∷ (102 ∷ [])))) (omega arith) l)
+mode-tab bs l = rw (is-tab bs vsidsText (omega arith) l, is-tab bs vmtfText (omega arith) l)

@@ -1,4 +1,5 @@
 -- The forms of a sheet's lines.
+pub mod Letters
 pub mod Forms
 pub mod Kinds
 pub mod Behind

@@ -10,6 +10,7 @@ use lib.ListN.{length, getD, take, drop, length-drop}
 use lib.Seq.{drop-drop}
 use borrow.Author.Tests.{eq-eqb, ne-eqb}
 use Rattle.laws.specs.Tests.{true-or-false}
+use Rattle.forms.specs.Letters.{clauseLetter, firstLetter}
 use Rattle.forms.specs.Text.{tab, find, splitFrom, number}
 use Rattle.forms.specs.TextLaws.{find-length}
 use Rattle.book.specs.Calls.{Call, bump, decay, insert, switchOff, decide, learnUnit, goBack, bumpReason}
@@ -107,7 +108,7 @@ made make [] = refl
 made make (f ∷ []) = refl
 made make (f ∷ (g ∷ fs)) = refl
 
-one-kind : (x : Kind) (o : Option (List (List ℕ))) → (kindNumber x ≡ 2 → ⊥) → (kindNumber x ≡ 3 → ⊥) → (kindNumber x ≡ 7 → ⊥) → (kindNumber x ≡ 11 → ⊥) → given (given o (one number)) (numbered x) ≡ given o (callWith x)
+one-kind : (x : Kind) (o : Option (List (List ℕ))) → (kindNumber x ≡ kindNumber decays → ⊥) → (kindNumber x ≡ kindNumber setsDecay → ⊥) → (kindNumber x ≡ kindNumber enqueues → ⊥) → (kindNumber x ≡ kindNumber movesGroup → ⊥) → given (given o (one number)) (numbered x) ≡ given o (callWith x)
 one-kind x none d w e f = refl
 one-kind bumps (some fs) d w e f = made bump fs
 one-kind inserts (some fs) d w e f = made insert fs
@@ -124,7 +125,7 @@ one-kind isClause (some fs) d w e f = nothing (one number fs) (λ v. none) (λ v
 one-kind isFirst (some fs) d w e f = nothing (one number fs) (λ v. none) (λ v. refl)
 one-kind isOther (some fs) d w e f = nothing (one number fs) (λ v. none) (λ v. refl)
 
-pub call-one : (line : List ℕ) {k : ℕ} → (length line ≡ 0 → ⊥) → k ≡ kindNumber (kindOf (getD line 0 0)) → (k ≡ 2 → ⊥) → (k ≡ 3 → ⊥) → (k ≡ 7 → ⊥) → (k ≡ 11 → ⊥) → callIn line ≡ given (given (behind (drop 1 line)) (one number)) (numbered (ofNumber k))
+pub call-one : (line : List ℕ) {k : ℕ} → (length line ≡ 0 → ⊥) → k ≡ kindNumber (kindOf (getD line 0 0)) → (k ≡ kindNumber decays → ⊥) → (k ≡ kindNumber setsDecay → ⊥) → (k ≡ kindNumber enqueues → ⊥) → (k ≡ kindNumber movesGroup → ⊥) → callIn line ≡ given (given (behind (drop 1 line)) (one number)) (numbered (ofNumber k))
 call-one line {k} n h d w e f =
     let same : k ≡ kindNumber (ofNumber k) = h ∙ ap kindNumber (sym (ap ofNumber h ∙ of-number (kindOf (getD line 0 0)))) in
     call-kind line n h ∙ sym (one-kind (ofNumber k) (behind (drop 1 line)) (λ z. d (same ∙ z)) (λ z. w (same ∙ z)) (λ z. e (same ∙ z)) (λ z. f (same ∙ z)))
@@ -133,12 +134,12 @@ call-one line {k} n h d w e f =
 pub codes-none : (line : List ℕ) → beginsClause line ≡ false → codesIn line ≡ none
 unfolding codesIn beginsClause splitFrom
 codes-none [] e = refl
-codes-none (b ∷ bs) e = lettered-behind (λ b fs. cond (eqb b 99) (numbers fs) none) b bs (λ t fs. rw t) ∙ rw e (nothing (behind bs) (λ fs. none) (λ fs. refl))
+codes-none (b ∷ bs) e = lettered-behind (λ b fs. cond (eqb b clauseLetter) (numbers fs) none) b bs (λ t fs. rw t) ∙ rw e (nothing (behind bs) (λ fs. none) (λ fs. refl))
 
 pub codes-behind : (line : List ℕ) → beginsClause line ≡ true → codesIn line ≡ given (behind (drop 1 line)) numbers
 unfolding codesIn beginsClause
 codes-behind [] e = absurd (false≢true e)
-codes-behind (b ∷ bs) e = lettered-behind (λ b fs. cond (eqb b 99) (numbers fs) none) b bs (λ t fs. rw t) ∙ rw e
+codes-behind (b ∷ bs) e = lettered-behind (λ b fs. cond (eqb b clauseLetter) (numbers fs) none) b bs (λ t fs. rw t) ∙ rw e
 
 -- the first line
 pub first-none : (line : List ℕ) → length line ≡ 0 → firstIn line ≡ none
@@ -146,17 +147,17 @@ unfolding firstIn splitFrom
 first-none [] e = refl
 first-none (b ∷ bs) e = absurd (omega arith)
 
-first-kind : (line : List ℕ) → (length line ≡ 0 → ⊥) → firstIn line ≡ given (behind (drop 1 line)) (λ fs. cond (eqb (getD line 0 0) 110) (two openingIn fs) none)
+first-kind : (line : List ℕ) → (length line ≡ 0 → ⊥) → firstIn line ≡ given (behind (drop 1 line)) (λ fs. cond (eqb (getD line 0 0) firstLetter) (two openingIn fs) none)
 unfolding firstIn
 first-kind [] n = absurd (n refl)
-first-kind (b ∷ bs) n = lettered-behind (λ b fs. cond (eqb b 110) (two openingIn fs) none) b bs (λ t fs. rw t)
+first-kind (b ∷ bs) n = lettered-behind (λ b fs. cond (eqb b firstLetter) (two openingIn fs) none) b bs (λ t fs. rw t)
 
 module _ (line : List ℕ) (n : length line ≡ 0 → ⊥) {k : ℕ} (e : k ≡ kindNumber (kindOf (getD line 0 0))) where
-  tells : eqb k 13 ≡ eqb (getD line 0 0) 110
-  tells = ap (λ (x : ℕ). eqb x 13) e ∙ tells-first (getD line 0 0)
+  tells : eqb k (kindNumber isFirst) ≡ eqb (getD line 0 0) firstLetter
+  tells = ap (λ (x : ℕ). eqb x (kindNumber isFirst)) e ∙ tells-first (getD line 0 0)
 
-  pub first-other : (k ≡ 13 → ⊥) → firstIn line ≡ none
-  first-other m = first-kind line n ∙ rw (← tells, ne-eqb k 13 m) (nothing (behind (drop 1 line)) (λ fs. none) (λ fs. refl))
+  pub first-other : (k ≡ kindNumber isFirst → ⊥) → firstIn line ≡ none
+  first-other m = first-kind line n ∙ rw (← tells, ne-eqb k (kindNumber isFirst) m) (nothing (behind (drop 1 line)) (λ fs. none) (λ fs. refl))
 
-  pub first-behind : k ≡ 13 → firstIn line ≡ given (behind (drop 1 line)) (two openingIn)
-  first-behind m = first-kind line n ∙ rw (← tells, eq-eqb k 13 m)
+  pub first-behind : k ≡ kindNumber isFirst → firstIn line ≡ given (behind (drop 1 line)) (two openingIn)
+  first-behind m = first-kind line n ∙ rw (← tells, eq-eqb k (kindNumber isFirst) m)

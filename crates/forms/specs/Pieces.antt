@@ -8,11 +8,12 @@ use native.Mathlib.Omega.{arith}
 use borrow.Author.Tests.{eqb-true, eq-eqb}
 use lib.Dec.{eqb}
 use lib.Seq.{append-snoc}
+use Rattle.laws.specs.Each.{Each}
 use Rattle.laws.specs.Tests.{true-or-false}
 use Rattle.forms.specs.Text.{tab, newline, splitFrom, split, fields, butLast, lines, occurs}
 use Rattle.forms.specs.TextLaws.{lines-end}
 use Rattle.forms.specs.Forms.{one, lettered}
-use Rattle.forms.specs.Spelling.{Each, Without, ended, Lines, behind, lineOf}
+use Rattle.forms.specs.Spelling.{Without, ended, Lines, behind, lineOf}
 use Rattle.forms.specs.Words.{never}
 
 module _ (sep : ℕ) where

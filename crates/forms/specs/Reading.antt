@@ -19,6 +19,7 @@ use Rattle.laws.specs.Tests.{and-true, and-false, and-left, and-right, not-true
 use Rattle.laws.specs.Choices.{or-cases}
 use Rattle.laws.specs.Parts.{drop-next}
 use Rattle.lit.specs.Numbers.{NONE}
+use Rattle.forms.specs.Letters.{digitZero, digitNine, digitA, digitF}
 use Rattle.forms.specs.Text.{find, occurs, all, isDigit, decimal, plain, number, isHex, hexDigit, hexadecimal, pattern}
 
 -- what a search finds, counted from here
@@ -75,21 +76,21 @@ numberFrom v bs = cond (all isDigit bs && leb (decimal v bs) NONE) (some (decima
 pub decimal-grows : (v : ℕ) (bs : List ℕ) → v ≤ decimal v bs
 unfolding decimal
 decimal-grows v [] = omega arith
-decimal-grows v (b ∷ bs) = omega (arith, decimal-grows (v * 10 + (b - 48)) bs)
+decimal-grows v (b ∷ bs) = omega (arith, decimal-grows (v * 10 + (b - digitZero)) bs)
 
 -- the next byte: a digit, or none
 module _ (v : ℕ) (l : List ℕ) (i : ℕ) (h : i < length l) where
-  pub number-next : 48 ≤ getD l i 0 → getD l i 0 ≤ 57 → numberFrom v (drop i l) ≡ numberFrom (v * 10 + (getD l i 0 - 48)) (drop (i + 1) l)
+  pub number-next : digitZero ≤ getD l i 0 → getD l i 0 ≤ digitNine → numberFrom v (drop i l) ≡ numberFrom (v * 10 + (getD l i 0 - digitZero)) (drop (i + 1) l)
   unfolding numberFrom all decimal
-  number-next low high = rw (drop-next l i h, le-leb 48 (getD l i 0) low, le-leb (getD l i 0) 57 high)
+  number-next low high = rw (drop-next l i h, le-leb digitZero (getD l i 0) low, le-leb (getD l i 0) digitNine high)
 
-  pub number-low : getD l i 0 < 48 → numberFrom v (drop i l) ≡ none
+  pub number-low : getD l i 0 < digitZero → numberFrom v (drop i l) ≡ none
   unfolding numberFrom all
-  number-low low = rw (drop-next l i h, lt-leb 48 (getD l i 0) low)
+  number-low low = rw (drop-next l i h, lt-leb digitZero (getD l i 0) low)
 
-  pub number-high : 57 < getD l i 0 → numberFrom v (drop i l) ≡ none
+  pub number-high : digitNine < getD l i 0 → numberFrom v (drop i l) ≡ none
   unfolding numberFrom all
-  number-high high = rw (drop-next l i h, lt-leb (getD l i 0) 57 high, and-false (leb 48 (getD l i 0)))
+  number-high high = rw (drop-next l i h, lt-leb (getD l i 0) digitNine high, and-false (leb digitZero (getD l i 0)))
 
 -- so a part above the greatest number means that the whole is
 pub number-over : (v : ℕ) (bs : List ℕ) → NONE < v → numberFrom v bs ≡ none
@@ -101,13 +102,13 @@ unfolding numberFrom all decimal
 number-end v l i e h = rw (drop-of-length-le l e, le-leb v NONE h)
 
 -- the whole number where no zero leads
-pub plain-starts : (bs : List ℕ) → 0 < length bs → (getD bs 0 0 ≡ 48 → 1 < length bs → ⊥) → plain bs ≡ all isDigit bs
+pub plain-starts : (bs : List ℕ) → 0 < length bs → (getD bs 0 0 ≡ digitZero → 1 < length bs → ⊥) → plain bs ≡ all isDigit bs
 unfolding plain all
 plain-starts [] l z = absurd (omega arith)
 plain-starts (b ∷ []) l z = rw (and-true (isDigit b))
-plain-starts (b ∷ (c ∷ bs)) l z = rw (ne-eqb b 48 (λ e. z e (omega arith)), and-true (isDigit b))
+plain-starts (b ∷ (c ∷ bs)) l z = rw (ne-eqb b digitZero (λ e. z e (omega arith)), and-true (isDigit b))
 
-pub number-starts : (bs : List ℕ) → 0 < length bs → (getD bs 0 0 ≡ 48 → 1 < length bs → ⊥) → number bs ≡ numberFrom 0 bs
+pub number-starts : (bs : List ℕ) → 0 < length bs → (getD bs 0 0 ≡ digitZero → 1 < length bs → ⊥) → number bs ≡ numberFrom 0 bs
 unfolding number numberFrom
 number-starts bs l z = rw (plain-starts bs l z)
 
@@ -116,17 +117,17 @@ unfolding number plain
 number-empty [] e = refl
 number-empty (b ∷ bs) e = absurd (omega arith)
 
-pub number-zero : (bs : List ℕ) → getD bs 0 0 ≡ 48 → 1 < length bs → number bs ≡ none
+pub number-zero : (bs : List ℕ) → getD bs 0 0 ≡ digitZero → 1 < length bs → number bs ≡ none
 unfolding number plain
 number-zero [] e h = absurd (omega arith)
 number-zero (b ∷ []) e h = absurd (omega arith)
-number-zero (b ∷ (c ∷ bs)) e h = rw (eq-eqb b 48 e, and-false (isDigit b))
+number-zero (b ∷ (c ∷ bs)) e h = rw (eq-eqb b digitZero e, and-false (isDigit b))
 
 -- no digits that give a number, so none at all
 pub digits-none : (bs : List ℕ) → numberFrom 0 bs ≡ none → number bs ≡ none
 digits-none [] e = number-empty [] refl
 digits-none (b ∷ []) e = number-starts (b ∷ []) (omega arith) (λ z l. omega arith) ∙ e
-digits-none (b ∷ (c ∷ bs)) e = by-cases (ℕ-discrete b 48) (λ z. number-zero (b ∷ (c ∷ bs)) z (omega arith)) (λ z. number-starts (b ∷ (c ∷ bs)) (omega arith) (λ w l. z w) ∙ e)
+digits-none (b ∷ (c ∷ bs)) e = by-cases (ℕ-discrete b digitZero) (λ z. number-zero (b ∷ (c ∷ bs)) z (omega arith)) (λ z. number-starts (b ∷ (c ∷ bs)) (omega arith) (λ w l. z w) ∙ e)
 
 -- the field from the front up to the first such byte
 abbrev pub upTo : ℕ → List ℕ → List ℕ
@@ -142,29 +143,29 @@ abbrev pub hexValue : ℕ → ℕ
 hexValue b = cond (isHex b) (hexDigit b) 16
 
 module _ (b : ℕ) where
-  pub hex-low : 48 ≤ b → b ≤ 57 → hexValue b ≡ b - 48
-  hex-low l h = rw (le-leb 48 b l, le-leb b 57 h)
+  pub hex-low : digitZero ≤ b → b ≤ digitNine → hexValue b ≡ b - digitZero
+  hex-low l h = rw (le-leb digitZero b l, le-leb b digitNine h)
 
-  pub hex-high : 97 ≤ b → b ≤ 102 → hexValue b ≡ b - 87
-  hex-high l h = rw (le-leb 48 b (omega arith), lt-leb b 57 (omega arith), le-leb 97 b l, le-leb b 102 h)
+  pub hex-high : digitA ≤ b → b ≤ digitF → hexValue b ≡ b - (digitA - 10)
+  hex-high l h = rw (le-leb digitZero b (omega arith), lt-leb b digitNine (omega arith), le-leb digitA b l, le-leb b digitF h)
 
   -- between the digits and the letters, and outside
-  pub hex-none : (48 ≤ b → b ≤ 57 → ⊥) → (97 ≤ b → b ≤ 102 → ⊥) → hexValue b ≡ 16
+  pub hex-none : (digitZero ≤ b → b ≤ digitNine → ⊥) → (digitA ≤ b → b ≤ digitF → ⊥) → hexValue b ≡ 16
   hex-none p q =
       let digit : isHex b ≡ false =
-      not-true (isHex b) (λ e. or-cases (isDigit b) (leb 97 b && leb b 102) e
-      (λ e. p (leb-true 48 b (and-left (leb 48 b) (leb b 57) e)) (leb-true b 57 (and-right (leb 48 b) (leb b 57) e)))
-      (λ e. q (leb-true 97 b (and-left (leb 97 b) (leb b 102) e)) (leb-true b 102 (and-right (leb 97 b) (leb b 102) e)))) in
+      not-true (isHex b) (λ e. or-cases (isDigit b) (leb digitA b && leb b digitF) e
+      (λ e. p (leb-true digitZero b (and-left (leb digitZero b) (leb b digitNine) e)) (leb-true b digitNine (and-right (leb digitZero b) (leb b digitNine) e)))
+      (λ e. q (leb-true digitA b (and-left (leb digitA b) (leb b digitF) e)) (leb-true b digitF (and-right (leb digitA b) (leb b digitF) e)))) in
       rw digit
 
   hex-small : isHex b ≡ true → hexValue b < 16
   hex-small e =
-      or-cases (isDigit b) (leb 97 b && leb b 102) e
-      (λ e. (let l : 48 ≤ b = leb-true 48 b (and-left (leb 48 b) (leb b 57) e) in
-      let h : b ≤ 57 = leb-true b 57 (and-right (leb 48 b) (leb b 57) e) in
+      or-cases (isDigit b) (leb digitA b && leb b digitF) e
+      (λ e. (let l : digitZero ≤ b = leb-true digitZero b (and-left (leb digitZero b) (leb b digitNine) e) in
+      let h : b ≤ digitNine = leb-true b digitNine (and-right (leb digitZero b) (leb b digitNine) e) in
       omega (arith, hex-low l h)))
-      (λ e. (let l : 97 ≤ b = leb-true 97 b (and-left (leb 97 b) (leb b 102) e) in
-      let h : b ≤ 102 = leb-true b 102 (and-right (leb 97 b) (leb b 102) e) in
+      (λ e. (let l : digitA ≤ b = leb-true digitA b (and-left (leb digitA b) (leb b digitF) e) in
+      let h : b ≤ digitF = leb-true b digitF (and-right (leb digitA b) (leb b digitF) e) in
       omega (arith, hex-high l h)))
 
   is-hex : (hexValue b ≡ 16 → ⊥) → isHex b ≡ true

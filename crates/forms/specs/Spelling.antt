@@ -1,21 +1,19 @@
 -- How the lines of a call sheet are written, sentence by sentence of document 01's section on the call sheet. Bytes are numbers.
-use Prim.Native.Nat.{ℕ, zero, suc, _+_, _/_, _%_, _^_, _≤_, _<_}
+use Prim.Native.Nat.{ℕ, zero, suc, _+_, _-_, _/_, _%_, _^_, _≤_, _<_}
 use mathlib.Core.Path.{_≡_}
 use mathlib.Core.Bool.{cond}
 use mathlib.Core.List.{List, [], _∷_, _++_, map}
 use lib.ListN.{length}
 use lib.Dec.{eqb, ltb}
 use lib.Ieee.{binary64, ofBits}
+use Rattle.laws.specs.Each.{Each}
 use Rattle.lit.specs.Numbers.{NONE, maxGroup}
 use Rattle.book.specs.Calls.{Call, bump, decay, setDecay, insert, switchOff, decide, enqueue, learnUnit, goBack, bumpReason, group}
+use Rattle.forms.specs.Letters.{bumpLetter, decayLetter, setDecayLetter, insertLetter, switchOffLetter, decideLetter, enqueueLetter, learnUnitLetter, goBackLetter, bumpReasonLetter, groupLetter, clauseLetter, firstLetter, vsidsText, vmtfText, dash, digitZero, digitA}
 use Rattle.forms.specs.Text.{tab, newline, occurs, digits}
 use Rattle.forms.specs.Forms.{Mode, vsids, vmtf, Opening}
 
--- something holds of each; a byte stands nowhere in the bytes
-abbrev pub Each : {A : Type 0} → (A → Type 0) → List A → Type 0
-Each P [] = Unit
-Each P (x ∷ l) = P x × Each P l
-
+-- a byte stands nowhere in the bytes
 abbrev pub Without : ℕ → List ℕ → Type 0
 Without b l = occurs b l ≡ 0
 
@@ -41,19 +39,19 @@ Whole n = n ≤ NONE
 
 -- 'First line: `n`, N, `vsids` or `vmtf`.'
 unfoldable pub modeText : Mode → List ℕ
-modeText vsids = 118 ∷ 115 ∷ 105 ∷ 100 ∷ 115 ∷ []
-modeText vmtf = 118 ∷ 109 ∷ 116 ∷ 102 ∷ []
+modeText vsids = vsidsText
+modeText vmtf = vmtfText
 
 abbrev pub First : List ℕ → Opening → Type 0
-First line o = (line ≡ lineOf 110 (digits (o .vars) ∷ modeText (o .mode) ∷ [])) × Whole (o .vars)
+First line o = (line ≡ lineOf firstLetter (digits (o .vars) ∷ modeText (o .mode) ∷ [])) × Whole (o .vars)
 
 -- 'clause lines `c` with 0 or more codes'
 abbrev pub Clause : List ℕ → List ℕ → Type 0
-Clause line codes = (line ≡ lineOf 99 (map digits codes)) × Each Whole codes
+Clause line codes = (line ≡ lineOf clauseLetter (map digits codes)) × Each Whole codes
 
 -- 'lower-case hexadecimal digits': so many of them, the first for the highest bits
 abbrev pub hexByte : ℕ → ℕ
-hexByte d = cond (ltb d 10) (48 + d) (87 + d)
+hexByte d = cond (ltb d 10) (digitZero + d) (digitA - 10 + d)
 
 unfoldable pub hex : ℕ → ℕ → List ℕ
 hex zero p = []
@@ -61,18 +59,18 @@ hex (suc k) p = hex k (p / 16) ++ hexByte (p % 16) ∷ []
 
 -- 'reason or `-` for NONE'
 unfoldable pub reasonText : ℕ → List ℕ
-reasonText r = cond (eqb r NONE) (45 ∷ []) (digits r)
+reasonText r = cond (eqb r NONE) (dash ∷ []) (digits r)
 
 -- 'Calls': a line that begins with b, y, w, i, o, g, e, u, k, r or f says its call
 pub data Says : List ℕ → Call → Type 0 where
-  line-b : (v : ℕ) → Whole v → Says (lineOf 98 (digits v ∷ [])) (bump v)
-  line-y : Says (lineOf 121 []) decay
-  line-w : (p : ℕ) → p < 2 ^ 64 → Says (lineOf 119 (hex 16 p ∷ [])) (setDecay (ofBits binary64 p))
-  line-i : (v : ℕ) → Whole v → Says (lineOf 105 (digits v ∷ [])) (insert v)
-  line-o : (v : ℕ) → Whole v → Says (lineOf 111 (digits v ∷ [])) (switchOff v)
-  line-g : (p : ℕ) → Whole p → Says (lineOf 103 (digits p ∷ [])) (decide p)
-  line-e : (c r : ℕ) → Whole c → Whole r → Says (lineOf 101 (digits c ∷ reasonText r ∷ [])) (enqueue c r)
-  line-u : (c : ℕ) → Whole c → Says (lineOf 117 (digits c ∷ [])) (learnUnit c)
-  line-k : (l : ℕ) → Whole l → Says (lineOf 107 (digits l ∷ [])) (goBack l)
-  line-r : (v : ℕ) → Whole v → Says (lineOf 114 (digits v ∷ [])) (bumpReason v)
-  line-f : (vs : List ℕ) → Each Whole vs → length vs ≤ maxGroup → Says (lineOf 102 (map digits vs)) (group vs)
+  line-b : (v : ℕ) → Whole v → Says (lineOf bumpLetter (digits v ∷ [])) (bump v)
+  line-y : Says (lineOf decayLetter []) decay
+  line-w : (p : ℕ) → p < 2 ^ 64 → Says (lineOf setDecayLetter (hex 16 p ∷ [])) (setDecay (ofBits binary64 p))
+  line-i : (v : ℕ) → Whole v → Says (lineOf insertLetter (digits v ∷ [])) (insert v)
+  line-o : (v : ℕ) → Whole v → Says (lineOf switchOffLetter (digits v ∷ [])) (switchOff v)
+  line-g : (p : ℕ) → Whole p → Says (lineOf decideLetter (digits p ∷ [])) (decide p)
+  line-e : (c r : ℕ) → Whole c → Whole r → Says (lineOf enqueueLetter (digits c ∷ reasonText r ∷ [])) (enqueue c r)
+  line-u : (c : ℕ) → Whole c → Says (lineOf learnUnitLetter (digits c ∷ [])) (learnUnit c)
+  line-k : (l : ℕ) → Whole l → Says (lineOf goBackLetter (digits l ∷ [])) (goBack l)
+  line-r : (v : ℕ) → Whole v → Says (lineOf bumpReasonLetter (digits v ∷ [])) (bumpReason v)
+  line-f : (vs : List ℕ) → Each Whole vs → length vs ≤ maxGroup → Says (lineOf groupLetter (map digits vs)) (group vs)

@@ -13,6 +13,7 @@ use lib.ListN.{length}
 use Rattle.laws.specs.Tests.{cond-elim}
 use Rattle.lit.specs.Numbers.{maxGroup}
 use Rattle.book.specs.Calls.{Call, bump, decay, setDecay, insert, switchOff, decide, enqueue, learnUnit, goBack, bumpReason, group}
+use Rattle.forms.specs.Letters.{bumpLetter, decayLetter, setDecayLetter, insertLetter, switchOffLetter, decideLetter, enqueueLetter, learnUnitLetter, goBackLetter, bumpReasonLetter, groupLetter, clauseLetter, firstLetter}
 use Rattle.forms.specs.Text.{tab, occurs, digits}
 use Rattle.forms.specs.Forms.{Kind, kindOf, bumps, decays, setsDecay, inserts, switchesOff, decides, enqueues, learnsUnit, goesBack, bumpsReason, movesGroup, isClause, isFirst, isOther, given, alone, one, two, numbers, groupIn, callWith, callIn, codesIn, Opening, openingIn, firstIn}
 use Rattle.forms.specs.Kinds.{letter}
@@ -25,10 +26,10 @@ pub codes-said : (line codes : List ℕ) → (codesIn line ≡ some codes) ↔ C
 unfolding codesIn occurs
 codes-said line codes = (
   λ e. lettered-said _ (λ line. Clause line codes) line e (λ b fs e.
-      let c = cond-some (eqb b 99) (numbers fs) e in
+      let c = cond-some (eqb b clauseLetter) (numbers fs) e in
       let n = numbers-said fs codes (c .1) in
-      rw (eqb-true b 99 (c .0), n .0) (refl, n .1)),
-  λ h. rw (h .0) (lettered-read _ 99 (map digits codes) refl (numbers-clean codes (h .1)) ∙ numbers-back codes (h .1)),
+      rw (eqb-true b clauseLetter (c .0), n .0) (refl, n .1)),
+  λ h. rw (h .0) (lettered-read _ clauseLetter (map digits codes) refl (numbers-clean codes (h .1)) ∙ numbers-back codes (h .1)),
 )
 
 -- what was made of one field, or of two
@@ -55,10 +56,10 @@ pub first-said : (line : List ℕ) (o : Opening) → (firstIn line ≡ some o) �
 unfolding firstIn occurs
 first-said line o = (
   λ e. lettered-said _ (λ line. First line o) line e (λ b fs e.
-      let c = cond-some (eqb b 110) (two openingIn fs) e in
-      rw (eqb-true b 110 (c .0)) (two-said a-number (λ fs o. First (lineOf 110 fs) o) a-mode (λ n m. record { vars = n; mode = m }) (λ n m h t. (refl, h)) fs o (c .1))),
+      let c = cond-some (eqb b firstLetter) (two openingIn fs) e in
+      rw (eqb-true b firstLetter (c .0)) (two-said a-number (λ fs o. First (lineOf firstLetter fs) o) a-mode (λ n m. record { vars = n; mode = m }) (λ n m h t. (refl, h)) fs o (c .1))),
   λ h. rw (h .0) (
-      lettered-read _ 110 (digits (o .vars) ∷ modeText (o .mode) ∷ []) refl (clean a-number (o .vars) (h .1), (clean a-mode (o .mode) tt, tt))
+      lettered-read _ firstLetter (digits (o .vars) ∷ modeText (o .mode) ∷ []) refl (clean a-number (o .vars) (h .1), (clean a-mode (o .mode) tt, tt))
       ∙ rw (a-number .back (o .vars) (h .1), a-mode .back (o .mode) tt)),
 )
 
@@ -66,28 +67,28 @@ first-said line o = (
 abbrev On : ℕ → List (List ℕ) → Call → Type 0
 On b fs c = Says (lineOf b fs) c
 
-step-says : (fs : List (List ℕ)) (c : Call) → alone decay fs ≡ some c → On 121 fs c
-step-says [] c e = same-some (On 121 []) e line-y
+step-says : (fs : List (List ℕ)) (c : Call) → alone decay fs ≡ some c → On decayLetter fs c
+step-says [] c e = same-some (On decayLetter []) e line-y
 step-says (f ∷ fs) c e = never e
 
-group-says : (fs : List (List ℕ)) (c : Call) → groupIn fs ≡ some c → On 102 fs c
+group-says : (fs : List (List ℕ)) (c : Call) → groupIn fs ≡ some c → On groupLetter fs c
 group-says fs c e =
     given-some (numbers fs) _ e (λ vs d e.
     let n = numbers-said fs vs d in
     let t = cond-some (leb (length vs) maxGroup) (some (group vs)) e in
-    rw (n .0) (same-some (On 102 (map digits vs)) (t .1) (line-f vs (n .1) (omega (arith, leb-true (length vs) maxGroup (t .0))))))
+    rw (n .0) (same-some (On groupLetter (map digits vs)) (t .1) (line-f vs (n .1) (omega (arith, leb-true (length vs) maxGroup (t .0))))))
 
 kind-says : (k : Kind) (fs : List (List ℕ)) (c : Call) → callWith k fs ≡ some c → On (letter k) fs c
-kind-says bumps = one-said a-number (On 98) bump line-b
+kind-says bumps = one-said a-number (On bumpLetter) bump line-b
 kind-says decays = step-says
-kind-says setsDecay = one-said a-pattern (On 119) (λ p. setDecay (ofBits binary64 p)) line-w
-kind-says inserts = one-said a-number (On 105) insert line-i
-kind-says switchesOff = one-said a-number (On 111) switchOff line-o
-kind-says decides = one-said a-number (On 103) decide line-g
-kind-says enqueues = two-said a-number (On 101) a-reason enqueue line-e
-kind-says learnsUnit = one-said a-number (On 117) learnUnit line-u
-kind-says goesBack = one-said a-number (On 107) goBack line-k
-kind-says bumpsReason = one-said a-number (On 114) bumpReason line-r
+kind-says setsDecay = one-said a-pattern (On setDecayLetter) (λ p. setDecay (ofBits binary64 p)) line-w
+kind-says inserts = one-said a-number (On insertLetter) insert line-i
+kind-says switchesOff = one-said a-number (On switchOffLetter) switchOff line-o
+kind-says decides = one-said a-number (On decideLetter) decide line-g
+kind-says enqueues = two-said a-number (On enqueueLetter) a-reason enqueue line-e
+kind-says learnsUnit = one-said a-number (On learnUnitLetter) learnUnit line-u
+kind-says goesBack = one-said a-number (On goBackLetter) goBack line-k
+kind-says bumpsReason = one-said a-number (On bumpReasonLetter) bumpReason line-r
 kind-says movesGroup = group-says
 kind-says isClause = λ fs c e. never e
 kind-says isFirst = λ fs c e. never e
@@ -116,19 +117,19 @@ module _ {A : Type 0} {read : List ℕ → Option A} {text : A → List ℕ} {Ok
 
 read-back : {line : List ℕ} {c : Call} → Says line c → callIn line ≡ some c
 unfolding callIn kindOf occurs
-read-back (line-b v h) = one-read a-number 98 bump v h refl (λ fs. refl)
-read-back line-y = lettered-read _ 121 [] refl tt
-read-back (line-w p h) = one-read a-pattern 119 (λ p. setDecay (ofBits binary64 p)) p h refl (λ fs. refl)
-read-back (line-i v h) = one-read a-number 105 insert v h refl (λ fs. refl)
-read-back (line-o v h) = one-read a-number 111 switchOff v h refl (λ fs. refl)
-read-back (line-g p h) = one-read a-number 103 decide p h refl (λ fs. refl)
+read-back (line-b v h) = one-read a-number bumpLetter bump v h refl (λ fs. refl)
+read-back line-y = lettered-read _ decayLetter [] refl tt
+read-back (line-w p h) = one-read a-pattern setDecayLetter (λ p. setDecay (ofBits binary64 p)) p h refl (λ fs. refl)
+read-back (line-i v h) = one-read a-number insertLetter insert v h refl (λ fs. refl)
+read-back (line-o v h) = one-read a-number switchOffLetter switchOff v h refl (λ fs. refl)
+read-back (line-g p h) = one-read a-number decideLetter decide p h refl (λ fs. refl)
 read-back (line-e c r h i) =
-    lettered-read _ 101 (digits c ∷ reasonText r ∷ []) refl (clean a-number c h, (clean a-reason r i, tt))
+    lettered-read _ enqueueLetter (digits c ∷ reasonText r ∷ []) refl (clean a-number c h, (clean a-reason r i, tt))
     ∙ rw (a-number .back c h, a-reason .back r i)
-read-back (line-u c h) = one-read a-number 117 learnUnit c h refl (λ fs. refl)
-read-back (line-k l h) = one-read a-number 107 goBack l h refl (λ fs. refl)
-read-back (line-r v h) = one-read a-number 114 bumpReason v h refl (λ fs. refl)
-read-back (line-f vs h l) = lettered-read _ 102 (map digits vs) refl (numbers-clean vs h) ∙ rw (numbers-back vs h, le-leb (length vs) maxGroup (omega arith))
+read-back (line-u c h) = one-read a-number learnUnitLetter learnUnit c h refl (λ fs. refl)
+read-back (line-k l h) = one-read a-number goBackLetter goBack l h refl (λ fs. refl)
+read-back (line-r v h) = one-read a-number bumpReasonLetter bumpReason v h refl (λ fs. refl)
+read-back (line-f vs h l) = lettered-read _ groupLetter (map digits vs) refl (numbers-clean vs h) ∙ rw (numbers-back vs h, le-leb (length vs) maxGroup (omega arith))
 
 pub call-said : (line : List ℕ) (c : Call) → (callIn line ≡ some c) ↔ Says line c
 unfolding callIn

@@ -6,6 +6,7 @@ use mathlib.Core.List.{List, [], _∷_, _++_}
 use lib.ListN.{length, set}
 use lib.Dec.{eqb, leb, ltb}
 use Rattle.lit.specs.Numbers.{NONE}
+use Rattle.forms.specs.Letters.{digitZero, digitNine, digitA, digitF}
 
 abbrev pub tab : ℕ
 tab = 9
@@ -52,18 +53,18 @@ all p (b ∷ bs) = p b && all p bs
 
 -- the decimal digits 0 to 9
 abbrev pub isDigit : ℕ → Bool
-isDigit b = leb 48 b && leb b 57
+isDigit b = leb digitZero b && leb b digitNine
 
 -- the number that digits give, read from the left behind v
 unfoldable pub decimal : ℕ → List ℕ → ℕ
 decimal v [] = v
-decimal v (b ∷ bs) = decimal (v * 10 + (b - 48)) bs
+decimal v (b ∷ bs) = decimal (v * 10 + (b - digitZero)) bs
 
 -- digits, at least one, and no zero leading
 unfoldable pub plain : List ℕ → Bool
 plain [] = false
 plain (b ∷ []) = isDigit b
-plain (b ∷ (c ∷ bs)) = (isDigit b && not (eqb b 48)) && all isDigit (c ∷ bs)
+plain (b ∷ (c ∷ bs)) = (isDigit b && not (eqb b digitZero)) && all isDigit (c ∷ bs)
 
 -- 'Whole numbers are decimal, no leading zeros, at most 4294967295.'
 unfoldable pub number : List ℕ → Option ℕ
@@ -71,10 +72,10 @@ number bs = cond (plain bs && leb (decimal 0 bs) NONE) (some (decimal 0 bs)) non
 
 -- the lower-case hexadecimal digits 0 to 9 and a to f
 abbrev pub isHex : ℕ → Bool
-isHex b = isDigit b || (leb 97 b && leb b 102)
+isHex b = isDigit b || (leb digitA b && leb b digitF)
 
 abbrev pub hexDigit : ℕ → ℕ
-hexDigit b = cond (leb b 57) (b - 48) (b - 87)
+hexDigit b = cond (leb b digitNine) (b - digitZero) (b - (digitA - 10))
 
 unfoldable pub hexadecimal : ℕ → List ℕ → ℕ
 hexadecimal v [] = v
@@ -87,7 +88,7 @@ pattern bs = cond (eqb (length bs) 16 && all isHex bs) (some (hexadecimal 0 bs))
 -- the decimal digits of a number, at most k of them
 unfoldable pub digitsBy : ℕ → ℕ → List ℕ
 digitsBy zero n = []
-digitsBy (suc k) n = cond (ltb n 10) ((48 + n) ∷ []) (digitsBy k (n / 10) ++ ((48 + n % 10) ∷ []))
+digitsBy (suc k) n = cond (ltb n 10) ((digitZero + n) ∷ []) (digitsBy k (n / 10) ++ ((digitZero + n % 10) ∷ []))
 
 -- of a number of 32 bits
 abbrev pub digits : ℕ → List ℕ

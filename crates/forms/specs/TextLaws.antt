@@ -15,6 +15,7 @@ use lib.ListN.{length, getD, set, take, drop, length-append, length-set, List·g
 use lib.Seq.{append-snoc, set-comm}
 use Rattle.laws.specs.Tests.{true-or-false, and-left, and-right, and-both}
 use Rattle.lit.specs.Numbers.{NONE}
+use Rattle.forms.specs.Letters.{digitZero, digitNine}
 use Rattle.forms.specs.Text.{newline, splitFrom, split, butLast, lines, occurs, find, all, isDigit, decimal, plain, number, digitsBy, digits, written}
 use Rattle.forms.specs.Reading.{decimal-grows, plain-starts}
 
@@ -150,19 +151,19 @@ digits-enough (suc j) (suc k) n p q =
     (λ e. rw e)
     (λ e. rw (e, digits-enough j k (n / 10) (tenth (suc j) n p) (tenth (suc k) n q)))
 
-pub digits-one : (n : ℕ) → n < 10 → digits n ≡ (48 + n) ∷ []
+pub digits-one : (n : ℕ) → n < 10 → digits n ≡ (digitZero + n) ∷ []
 unfolding digitsBy
 digits-one n h = rw (lt-ltb n 10 h)
 
-digits-more : (k n : ℕ) → 10 ≤ n → digitsBy (suc k) n ≡ digitsBy k (n / 10) ++ ((48 + n % 10) ∷ [])
+digits-more : (k n : ℕ) → 10 ≤ n → digitsBy (suc k) n ≡ digitsBy k (n / 10) ++ ((digitZero + n % 10) ∷ [])
 unfolding digitsBy
 digits-more k n h = rw (le-ltb n 10 h)
 
-pub digits-step : (n : ℕ) → 10 ≤ n → n < 10 ^ 10 → digits n ≡ digits (n / 10) ++ ((48 + n % 10) ∷ [])
+pub digits-step : (n : ℕ) → 10 ≤ n → n < 10 ^ 10 → digits n ≡ digits (n / 10) ++ ((digitZero + n % 10) ∷ [])
 digits-step n l h = digits-more 9 n l ∙ rw (digits-enough 8 9 (n / 10) (omega arith) (omega arith))
 
 pub digits-length : (n : ℕ) → 10 ≤ n → n < 10 ^ 10 → length (digits n) ≡ length (digits (n / 10)) + 1
-digits-length n l h = ap length (digits-step n l h) ∙ length-append (digits (n / 10)) ((48 + n % 10) ∷ [])
+digits-length n l h = ap length (digits-step n l h) ∙ length-append (digits (n / 10)) ((digitZero + n % 10) ∷ [])
 
 -- how many they are
 pub digits-count : (k n : ℕ) → 10 ^ suc k ≤ n → n < 10 ^ suc (suc k) → n < 10 ^ 10 → length (digits n) ≡ suc (suc k)
@@ -174,11 +175,11 @@ digits-count (suc k) n l u h =
     omega (arith, digits-length n (omega (arith, pow-suc 10 (suc k), pow-suc 10 k)) h)
 
 -- the last digit, written before the others
-pub digits-last-first : (at n : ℕ) (l : List ℕ) → 10 ≤ n → n < 10 ^ 10 → written at (digits n) l ≡ written at (digits (n / 10)) (set l (at + length (digits (n / 10))) (48 + n % 10))
-digits-last-first at n l h u = rw (digits-step n h u) (written-last at (48 + n % 10) (digits (n / 10)) l)
+pub digits-last-first : (at n : ℕ) (l : List ℕ) → 10 ≤ n → n < 10 ^ 10 → written at (digits n) l ≡ written at (digits (n / 10)) (set l (at + length (digits (n / 10))) (digitZero + n % 10))
+digits-last-first at n l h u = rw (digits-step n h u) (written-last at (digitZero + n % 10) (digits (n / 10)) l)
 
 -- a digit alone
-pub put-one : (at n : ℕ) (l : List ℕ) → n < 10 → set l at (48 + n) ≡ written at (digits n) l
+pub put-one : (at n : ℕ) (l : List ℕ) → n < 10 → set l at (digitZero + n) ≡ written at (digits n) l
 unfolding written
 put-one at n l h = rw (digits-one n h)
 
@@ -189,7 +190,7 @@ digits-short zero (suc j) n h = rw (lt-ltb n 10 h) (omega arith)
 digits-short (suc k) (suc j) n h =
     true-or-false (ltb n 10)
     (λ e. rw e (omega arith))
-    (λ e. rw (e, length-append (digitsBy j (n / 10)) ((48 + n % 10) ∷ [])) (omega (arith, digits-short k j (n / 10) (tenth (suc k) n h))))
+    (λ e. rw (e, length-append (digitsBy j (n / 10)) ((digitZero + n % 10) ∷ [])) (omega (arith, digits-short k j (n / 10) (tenth (suc k) n h))))
 
 pub digits-room : (j n : ℕ) → length (digitsBy j n) ≤ j
 unfolding digitsBy
@@ -197,14 +198,14 @@ digits-room zero n = omega arith
 digits-room (suc j) n =
     true-or-false (ltb n 10)
     (λ e. rw e (omega arith))
-    (λ e. rw (e, length-append (digitsBy j (n / 10)) ((48 + n % 10) ∷ [])) (omega (arith, digits-room j (n / 10))))
+    (λ e. rw (e, length-append (digitsBy j (n / 10)) ((digitZero + n % 10) ∷ [])) (omega (arith, digits-room j (n / 10))))
 
 pub digits-some : (j n : ℕ) → 0 < length (digitsBy (suc j) n)
 unfolding digitsBy
 digits-some j n =
     true-or-false (ltb n 10)
     (λ e. rw e (omega arith))
-    (λ e. rw (e, length-append (digitsBy j (n / 10)) ((48 + n % 10) ∷ [])) (omega arith))
+    (λ e. rw (e, length-append (digitsBy j (n / 10)) ((digitZero + n % 10) ∷ [])) (omega arith))
 
 pub digits-two : (n : ℕ) → n < 100 → length (digits n) ≤ 2
 digits-two n h = digits-short 1 10 n h
@@ -222,9 +223,9 @@ all-none : (p : ℕ → Bool) → all p [] ≡ true
 unfolding all
 all-none p = refl
 
-one-digit : (n : ℕ) → n < 10 → all isDigit ((48 + n) ∷ []) ≡ true
+one-digit : (n : ℕ) → n < 10 → all isDigit ((digitZero + n) ∷ []) ≡ true
 unfolding all
-one-digit n h = rw (le-leb 48 (48 + n) (omega arith), le-leb (48 + n) 57 (omega arith))
+one-digit n h = rw (le-leb digitZero (digitZero + n) (omega arith), le-leb (digitZero + n) digitNine (omega arith))
 
 pub digits-all : (j n : ℕ) → all isDigit (digitsBy j n) ≡ true
 unfolding digitsBy
@@ -232,13 +233,13 @@ digits-all zero n = all-none isDigit
 digits-all (suc j) n =
     true-or-false (ltb n 10)
     (λ e. rw e (one-digit n (ltb-true n 10 e)))
-    (λ e. rw e (all-append isDigit (digitsBy j (n / 10)) ((48 + n % 10) ∷ []) (digits-all j (n / 10)) (one-digit (n % 10) (omega arith))))
+    (λ e. rw e (all-append isDigit (digitsBy j (n / 10)) ((digitZero + n % 10) ∷ []) (digits-all j (n / 10)) (one-digit (n % 10) (omega arith))))
 
 -- the number of the digits is the number
 decimal-append : (v : ℕ) (a b : List ℕ) → decimal v (a ++ b) ≡ decimal (decimal v a) b
 unfolding decimal
 decimal-append v [] b = refl
-decimal-append v (x ∷ a) b = decimal-append (v * 10 + (x - 48)) a b
+decimal-append v (x ∷ a) b = decimal-append (v * 10 + (x - digitZero)) a b
 
 decimal-digits : (j n : ℕ) → n < 10 ^ suc j → decimal 0 (digitsBy (suc j) n) ≡ n
 unfolding digitsBy decimal
@@ -246,17 +247,17 @@ decimal-digits zero n h = rw (lt-ltb n 10 h) (omega arith)
 decimal-digits (suc j) n h =
     true-or-false (ltb n 10)
     (λ e. rw e (omega arith))
-    (λ e. rw (e, decimal-append 0 (digitsBy (suc j) (n / 10)) ((48 + n % 10) ∷ []), decimal-digits j (n / 10) (tenth (suc j) n h)) (omega arith))
+    (λ e. rw (e, decimal-append 0 (digitsBy (suc j) (n / 10)) ((digitZero + n % 10) ∷ []), decimal-digits j (n / 10) (tenth (suc j) n h)) (omega arith))
 
 -- no zero leads
-digits-lead : (j n : ℕ) → 0 < n → n < 10 ^ suc j → 48 < getD (digitsBy (suc j) n) 0 0
+digits-lead : (j n : ℕ) → 0 < n → n < 10 ^ suc j → digitZero < getD (digitsBy (suc j) n) 0 0
 unfolding digitsBy
 digits-lead zero n l h = rw (lt-ltb n 10 h) (omega arith)
 digits-lead (suc j) n l h =
     true-or-false (ltb n 10)
     (λ e. rw e (omega arith))
     (λ e. (let m : 10 ≤ n = ltb-false n 10 e in
-    rw (e, List·getD-append (digitsBy (suc j) (n / 10)) ((48 + n % 10) ∷ []) 0 0 (digits-some j (n / 10))) (digits-lead j (n / 10) (omega arith) (tenth (suc j) n h))))
+    rw (e, List·getD-append (digitsBy (suc j) (n / 10)) ((digitZero + n % 10) ∷ []) 0 0 (digits-some j (n / 10))) (digits-lead j (n / 10) (omega arith) (tenth (suc j) n h))))
 
 digits-plain : (n : ℕ) → n < 10 ^ 10 → plain (digits n) ≡ true
 digits-plain n h =
@@ -276,12 +277,12 @@ digits-decimal : (v : ℕ) (bs : List ℕ) → 0 < v → all isDigit bs ≡ true
 unfolding all decimal
 digits-decimal v [] p d h = sym (append-nil (digits v))
 digits-decimal v (b ∷ bs) p d h =
-    let w = v * 10 + (b - 48) in
+    let w = v * 10 + (b - digitZero) in
     let first : isDigit b ≡ true = and-left (isDigit b) (all isDigit bs) d in
-    let low : 48 ≤ b = leb-true 48 b (and-left (leb 48 b) (leb b 57) first) in
-    let high : b ≤ 57 = leb-true b 57 (and-right (leb 48 b) (leb b 57) first) in
+    let low : digitZero ≤ b = leb-true digitZero b (and-left (leb digitZero b) (leb b digitNine) first) in
+    let high : b ≤ digitNine = leb-true b digitNine (and-right (leb digitZero b) (leb b digitNine) first) in
     let tens : w / 10 ≡ v = omega arith in
-    let last : 48 + w % 10 ≡ b = omega arith in
+    let last : digitZero + w % 10 ≡ b = omega arith in
     digits-decimal w bs (omega arith) (and-right (isDigit b) (all isDigit bs) d) h
     ∙ rw (digits-step w (omega arith) (omega (arith, decimal-grows w bs)), tens, last) (append-snoc (digits v) b bs)
 
@@ -289,21 +290,21 @@ plain-text : (bs : List ℕ) → plain bs ≡ true → decimal 0 bs < 10 ^ 10 �
 unfolding plain decimal
 plain-text [] d h = absurd (false≢true d)
 plain-text (b ∷ []) d h =
-    let low : 48 ≤ b = leb-true 48 b (and-left (leb 48 b) (leb b 57) d) in
-    let high : b ≤ 57 = leb-true b 57 (and-right (leb 48 b) (leb b 57) d) in
-    let v = 0 * 10 + (b - 48) in
-    let same : 48 + v ≡ b = omega arith in
+    let low : digitZero ≤ b = leb-true digitZero b (and-left (leb digitZero b) (leb b digitNine) d) in
+    let high : b ≤ digitNine = leb-true b digitNine (and-right (leb digitZero b) (leb b digitNine) d) in
+    let v = 0 * 10 + (b - digitZero) in
+    let same : digitZero + v ≡ b = omega arith in
     digits-one v (omega arith) ∙ rw same
 plain-text (b ∷ (c ∷ bs)) d h =
     let rest = all isDigit (c ∷ bs) in
-    let first : isDigit b && not (eqb b 48) ≡ true = and-left (isDigit b && not (eqb b 48)) rest d in
-    let digit : isDigit b ≡ true = and-left (isDigit b) (not (eqb b 48)) first in
-    let low : 48 ≤ b = leb-true 48 b (and-left (leb 48 b) (leb b 57) digit) in
-    let high : b ≤ 57 = leb-true b 57 (and-right (leb 48 b) (leb b 57) digit) in
-    let other : b ≢ 48 = eqb-false b 48 (tests.not-true (eqb b 48) (and-right (isDigit b) (not (eqb b 48)) first)) in
-    let v = 0 * 10 + (b - 48) in
-    let same : 48 + v ≡ b = omega arith in
-    digits-decimal v (c ∷ bs) (omega arith) (and-right (isDigit b && not (eqb b 48)) rest d) h ∙ rw (digits-one v (omega arith), same)
+    let first : isDigit b && not (eqb b digitZero) ≡ true = and-left (isDigit b && not (eqb b digitZero)) rest d in
+    let digit : isDigit b ≡ true = and-left (isDigit b) (not (eqb b digitZero)) first in
+    let low : digitZero ≤ b = leb-true digitZero b (and-left (leb digitZero b) (leb b digitNine) digit) in
+    let high : b ≤ digitNine = leb-true b digitNine (and-right (leb digitZero b) (leb b digitNine) digit) in
+    let other : b ≢ digitZero = eqb-false b digitZero (tests.not-true (eqb b digitZero) (and-right (isDigit b) (not (eqb b digitZero)) first)) in
+    let v = 0 * 10 + (b - digitZero) in
+    let same : digitZero + v ≡ b = omega arith in
+    digits-decimal v (c ∷ bs) (omega arith) (and-right (isDigit b && not (eqb b digitZero)) rest d) h ∙ rw (digits-one v (omega arith), same)
 
 pub number-text : (bs : List ℕ) (n : ℕ) → number bs ≡ some n → bs ≡ digits n
 unfolding number

@@ -12,14 +12,16 @@ use borrow.Author.Tests.{eqb-true, leb-true, le-leb, lt-leb, lt-ltb, le-ltb}
 use lib.Dec.{eqb, leb}
 use lib.ListN.{length}
 use lib.Seq.{append-snoc}
+use Rattle.laws.specs.Each.{Each}
 use Rattle.laws.specs.Tests.{true-or-false, and-left, and-right, not-true}
 use Rattle.laws.specs.Choices.{or-cases}
 use Rattle.lit.specs.Numbers.{NONE}
+use Rattle.forms.specs.Letters.{dash, digitZero, digitNine, digitA, digitF}
 use Rattle.forms.specs.Text.{tab, find, occurs, all, isDigit, decimal, plain, number, isHex, hexDigit, hexadecimal, pattern, digits}
 use Rattle.forms.specs.TextLaws.{occurs-found, number-digits, number-text}
 use Rattle.forms.specs.Forms.{given, numbers, is, reasonIn, Mode, vsids, vmtf, modeIn}
 use Rattle.forms.specs.Laws.{is-same, number-tab, pattern-tab, reason-tab, mode-tab}
-use Rattle.forms.specs.Spelling.{Each, Without, Whole, hexByte, hex, reasonText, modeText}
+use Rattle.forms.specs.Spelling.{Without, Whole, hexByte, hex, reasonText, modeText}
 
 -- where something was read
 pub never : {A C : Type 0} {x : A} → _≡_ {A = Option A} none (some x) → C
@@ -87,17 +89,17 @@ between low b high t = (leb-true low b (and-left (leb low b) (leb b high) t), le
 
 digit-byte : (b : ℕ) → isHex b ≡ true → (hexByte (hexDigit b) ≡ b) × (hexDigit b < 16)
 digit-byte b e =
-    or-cases (isDigit b) (leb 97 b && leb b 102) e
-    (λ t. let h = between 48 b 57 t in rw (le-leb b 57 (h .1), lt-ltb (b - 48) 10 (omega arith)) (omega arith, omega arith))
-    (λ t. let h = between 97 b 102 t in rw (lt-leb b 57 (omega arith), le-ltb (b - 87) 10 (omega arith)) (omega arith, omega arith))
+    or-cases (isDigit b) (leb digitA b && leb b digitF) e
+    (λ t. let h = between digitZero b digitNine t in rw (le-leb b digitNine (h .1), lt-ltb (b - digitZero) 10 (omega arith)) (omega arith, omega arith))
+    (λ t. let h = between digitA b digitF t in rw (lt-leb b digitNine (omega arith), le-ltb (b - (digitA - 10)) 10 (omega arith)) (omega arith, omega arith))
 
 byte-digit : (d : ℕ) → d < 16 → (isHex (hexByte d) ≡ true) × (hexDigit (hexByte d) ≡ d)
 byte-digit d h =
     by-cases (decLt d 10)
-    (λ l. rw (lt-ltb d 10 l, le-leb 48 (48 + d) (omega arith), le-leb (48 + d) 57 (omega arith)) (refl, omega arith))
+    (λ l. rw (lt-ltb d 10 l, le-leb digitZero (digitZero + d) (omega arith), le-leb (digitZero + d) digitNine (omega arith)) (refl, omega arith))
     (λ m.
-    let high = 87 + d in
-    rw (le-ltb d 10 (omega arith), lt-leb high 57 (omega arith), le-leb 48 high (omega arith), le-leb 97 high (omega arith), le-leb high 102 (omega arith)) (refl, omega arith))
+    let high = digitA - 10 + d in
+    rw (le-ltb d 10 (omega arith), lt-leb high digitNine (omega arith), le-leb digitZero high (omega arith), le-leb digitA high (omega arith), le-leb high digitF (omega arith)) (refl, omega arith))
 
 -- digits read behind a number of j digits: their text stands behind that number's, and fills 4 bits for each
 hex-said : (j v : ℕ) (bs : List ℕ) {k : ℕ} → j + length bs ≡ k → all isHex bs ≡ true → v < 16 ^ j → (hex k (hexadecimal v bs) ≡ hex j v ++ bs) × (hexadecimal v bs < 16 ^ k)
@@ -146,7 +148,7 @@ word-said f w x other e here there = true-or-false (is f w) (λ t. here (is-same
 reason-said : (f : List ℕ) (r : ℕ) → reasonIn f ≡ some r → (f ≡ reasonText r) × Whole r
 unfolding reasonIn reasonText
 reason-said f r e =
-    word-said f (45 ∷ []) NONE _ e
+    word-said f (dash ∷ []) NONE _ e
     (λ same m. rw (← m) (same, omega arith))
     (λ e. given-some (number f) _ e (λ n d e.
     let c = cond-other (eqb n NONE) (some n) e in
@@ -160,7 +162,7 @@ reason-back r h =
     (λ t. rw (eqb-true r NONE t))
     (λ n.
     let read = number-digits r h in
-    let other : is (digits r) (45 ∷ []) ≡ false = not-true (is (digits r) (45 ∷ [])) (λ t. never (rw (is-same (digits r) (45 ∷ []) t) at read)) in
+    let other : is (digits r) (dash ∷ []) ≡ false = not-true (is (digits r) (dash ∷ [])) (λ t. never (rw (is-same (digits r) (dash ∷ []) t) at read)) in
     rw (n, other, read, n))
 
 pub a-reason : Field reasonIn reasonText Whole

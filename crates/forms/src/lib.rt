@@ -13,6 +13,9 @@ ghost use Rattle.forms.specs.Forms as spec;
 ghost use Rattle.forms.specs.Kinds.{ofNumber};
 ghost use Rattle.forms.specs.Behind.{behind, tabbed, secondTab};
 ghost use Rattle.forms.specs.Read.{callRead, CallRead, Fits, GroupRead, Counted, firstOf, numbered};
+use crate::letters::DASH;
+use crate::letters::VMTF;
+use crate::letters::VSIDS;
 use crate::text::Bits;
 use crate::text::Field;
 use crate::text::TAB;
@@ -35,6 +38,7 @@ use table::SETS_DECAY;
 use table::SWITCHES_OFF;
 use table::kind;
 
+pub mod letters;
 pub mod spelling;
 pub mod text;
 
@@ -170,7 +174,7 @@ pub fn read_codes(line: &[u8], out: &mut [u32]) -> Count
 fn read_reason(field: &[u8]) -> Whole
     ensures { λ r. ⌜ r ≡ wholeOf (spec.reasonIn (now (field .entry))) ⌝ }
 {
-    if is(field, b"-") {
+    if is(field, &[DASH]) {
         return Whole::Is(NONE);
     }
     let Whole::Is(reason) = crate::text::number(field) else {
@@ -286,10 +290,10 @@ pub fn read_group(line: &[u8], vars: &mut [u32]) -> Count
 fn opening(n: u32, word: &[u8]) -> First
     ensures { λ r. ⌜ r ≡ firstOf (spec.given (spec.modeIn (now (word .entry))) (λ m. some (record { vars = n; mode = m }))) ⌝ }
 {
-    if is(word, b"vsids") {
+    if is(word, &VSIDS) {
         return First::Heap(n);
     }
-    if is(word, b"vmtf") {
+    if is(word, &VMTF) {
         return First::List(n);
     }
     First::Bad

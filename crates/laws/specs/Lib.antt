@@ -2,6 +2,7 @@
 pub mod Tests
 pub mod Choices
 pub mod Lists
+pub mod Each
 pub mod Every
 pub mod Some
 pub mod Pigeonhole

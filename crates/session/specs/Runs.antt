@@ -3,14 +3,15 @@
 use Prim.Native.Nat.{ℕ}
 use mathlib.Core.Path.{_≡_, refl, sym, ap, subst, _∙_}
 use mathlib.Core.Bool.{Bool, false, true≢false}
-use mathlib.Core.List.{List, [], _∷_}
+use mathlib.Core.List.{List, [], _∷_, map}
 use lib.Dec.{eqb}
 use lib.ListN.{length}
 use borrow.Author.Tests.{eqb-true}
 use Rattle.laws.specs.Tests.{true-or-false}
+use Rattle.laws.specs.Each.{Each}
 use Rattle.book.specs.Calls.{Call}
 use Rattle.book.specs.Chooser.{Chooser}
-use Rattle.book.specs.Session.{Result, done, refuse, status, leaves, Session, fresh, call}
+use Rattle.book.specs.Session.{Result, done, refuse, status, leaves, mapped, Session, fresh, call}
 use Rattle.book.specs.Claim.{Run, startingWith, begin, extended, step, run, Claim}
 use Rattle.book.proofs.Books.{length-values}
 use Rattle.book.proofs.Term3.{Inv, began, stepped, turned-down}
@@ -23,22 +24,25 @@ use Rattle.session.specs.Entered.{Sound, RightScratch, Founded, GoodMemo
 abbrev pub FoundedBy : Lending → Type 0
 FoundedBy g = Founded (g .n) (g .m) (g .lits) (g .ends)
 
+-- calls that are each lent with g
+abbrev pub allLent : Lending → List Asked → List (Lending × Asked)
+allLent g asks = map (λ (a : Asked). (g, a)) asks
+
 -- M g is the mode over what g lends, and `into g h c` the memory c of its chooser as memory of the one over h.
 module _ (M : Lending → Mode) (into : (g h : Lending) → M g .ops .State → M h .ops .State) where
-  -- a session over what g lends; its memory as a session over h; and a result so
+  -- a session over what g lends, and its memory as a session over h
   abbrev pub SessionOver : Lending → Type 0
   SessionOver g = Session (g .n) (g .m) (M g .ops)
 
   abbrev pub moved : (g h : Lending) → SessionOver g → SessionOver h
   moved g h s = record { trail = s .trail; chooser = into g h (s .chooser) }
 
-  abbrev pub resultAs : (g h : Lending) → Result (SessionOver g) → Result (SessionOver h)
-  resultAs g h (done r s) = done r (moved g h s)
-  resultAs g h (refuse k) = refuse k
+  -- a call that is lent with h, on the memory of a session over g: its result over h, and over g
+  abbrev pub enteredOver : (g h : Lending) → Asked → SessionOver g → Result (SessionOver h)
+  enteredOver g h a s = entered (h .n) (h .m) (M h) (h .lits) (h .literals) (h .ends) a (moved g h s)
 
-  -- a call that is lent with h, on the memory of a session over g
   abbrev pub enteredWith : (g h : Lending) → Asked → SessionOver g → Result (SessionOver g)
-  enteredWith g h a s = resultAs h g (entered (h .n) (h .m) (M h) (h .lits) (h .literals) (h .ends) a (moved g h s))
+  enteredWith g h a s = mapped (moved h g) (enteredOver g h a s)
 
   unfoldable pub runLent : (g : Lending) → Run (g .n) (g .m) (M g .ops) → List (Lending × Asked) → Run (g .n) (g .m) (M g .ops)
   runLent g r [] = r
@@ -69,26 +73,31 @@ module _ (M : Lending → Mode) (into : (g h : Lending) → M g .ops .State → 
     -- the result over h, as one over g
     settle : (h : Lending) (f : FoundedBy h) (r : Run (g .n) (g .m) (M g .ops)) (c : Call) (x : Result (SessionOver h))
         → Inv (h .n) (h .m) (M h .ops) (F .chooser h f) (extended (h .n) (h .m) (M h .ops) (over h r) c x)
-        → Inv (h .n) (h .m) (M h .ops) (F .chooser h f) (over h (extended (g .n) (g .m) (M g .ops) r c (resultAs h g x)))
+        → Inv (h .n) (h .m) (M h .ops) (F .chooser h f) (over h (extended (g .n) (g .m) (M g .ops) r c (mapped (moved h g) x)))
     settle h f r c (done k u) i = rw (F .through h g h (u .chooser) ∙ F .self h (u .chooser)) i
     settle h f r c (refuse k) i = i
 
-    refused : (h : Lending) (r : Run (g .n) (g .m) (M g .ops)) (c : Call) (x : Result (SessionOver h)) → eqb (status x) 0 ≡ false → Keeps r → Keeps (extended (g .n) (g .m) (M g .ops) r c (resultAs h g x))
+    refused : (h : Lending) (r : Run (g .n) (g .m) (M g .ops)) (c : Call) (x : Result (SessionOver h)) → eqb (status x) 0 ≡ false → Keeps r → Keeps (extended (g .n) (g .m) (M g .ops) r c (mapped (moved h g) x))
     refused h r c (done k u) z p = absurd (true≢false z)
     refused h r c (refuse k) z p =
         let w = p .with in
         record { with = w; same = p .same; founded = p .founded; inv = turned-down (w .n) (w .m) (M w .ops) (F .chooser w (p .founded)) (over w r) c k z (p .inv) }
 
-    accepted : (h : Lending) (a : Asked) (r : Run (g .n) (g .m) (M g .ops)) → status (entered (h .n) (h .m) (M h) (h .lits) (h .literals) (h .ends) a (moved g h (r .now))) ≡ 0 → Keeps r
+    -- an accepted call was lent good memory: the clause list that it was lent with, its scratch, and the session over them
+    lent-good : (h : Lending) (a : Asked) (s : SessionOver g) → F .sound h .Typed (into g h (s .chooser)) → status (enteredOver g h a s) ≡ 0
+        → GoodMemory (F .sound h .Good) (h .lits) (h .literals) (h .ends) a (moved g h s)
+    lent-good h a s t e = bad-refused (h .n) (h .m) (M h) (h .lits) (h .literals) (h .ends) (F .sound h) a (moved g h s) t e
+
+    accepted : (h : Lending) (a : Asked) (r : Run (g .n) (g .m) (M g .ops)) → status (enteredOver g h a (r .now)) ≡ 0 → Keeps r
         → Keeps (extended (g .n) (g .m) (M g .ops) r (asked a) (enteredWith g h a (r .now)))
     unfolding step
     accepted h a r z p =
         let w = p .with in
         let c = r .now .chooser in
-        let x = entered (h .n) (h .m) (M h) (h .lits) (h .literals) (h .ends) a (moved g h (r .now)) in
+        let x = enteredOver g h a (r .now) in
         let L = F .sound h in
         let typed : L .Typed (into g h c) = rw (F .through g w h c) at (F .typed w h (p .founded) _ _ (into g w c) (p .inv .good .ok)) in
-        let k = bad-refused (h .n) (h .m) (M h) (h .lits) (h .literals) (h .ends) L a (moved g h (r .now)) typed z in
+        let k = lent-good h a (r .now) typed z in
         let t = L .trail (moved g h (r .now)) (k .session) in
         let e : w .n ≡ h .n = sym (length-values (w .n) _) ∙ sym (ap length (p .inv .good .holds .values)) ∙ t .lengths .values-long in
         let i = over-list (over w r) (into g h c) e (F .switches w h) (F .chooser w (p .founded)) (F .chooser h (k .founded)) t
@@ -105,7 +114,7 @@ module _ (M : Lending → Mode) (into : (g h : Lending) → M g .ops .State → 
     unfolding runLent
     along r [] p = p
     along r ((h, a) ∷ asks) p =
-        let x = entered (h .n) (h .m) (M h) (h .lits) (h .literals) (h .ends) a (moved g h (r .now)) in
+        let x = enteredOver g h a (r .now) in
         along _ asks (true-or-false (eqb (status x) 0) (λ z. accepted h a r (eqb-true (status x) 0 z) p) (λ z. refused h r (asked a) x z p))
 
     -- Term 3 of every list of checked calls from a fresh session
@@ -125,6 +134,29 @@ module _ (M : Lending → Mode) (into : (g h : Lending) → M g .ops .State → 
         subst (λ (u : SessionOver g). Claim (g .n) (g .m) (M g .ops) (runLent g (startingWith (g .n) (g .m) (M g .ops) u) asks))
         (sym (made-fresh (g .n) (g .m) (M g) (g .lits) (g .literals) (g .ends) scratch s e))
         (lent-term3 (made-sizes (g .n) (g .m) (M g) (g .lits) (g .literals) (g .ends) scratch s e) asks)
+
+    -- a result over g, as one over g, is itself
+    self-mapped : (x : Result (SessionOver g)) → mapped (moved g g) x ≡ x
+    self-mapped (done k s) = rw (F .self g (s .chooser))
+    self-mapped (refuse k) = refl
+
+    -- Lent as the session was made, and each with its scratch, checked calls run as the book runs them
+    module _ (f : FoundedBy g) (el : length (g .lits) ≡ g .literals) where
+      along-book : (r : Run (g .n) (g .m) (M g .ops)) → F .sound g .Good (r .now) → (asks : List Asked) → Each RightScratch asks
+          → runLent g r (allLent g asks) ≡ run (g .n) (g .m) (M g .ops) r (map asked asks)
+      unfolding runLent run step
+      along-book r good [] z = refl
+      along-book r good (a ∷ asks) z =
+          let L = F .sound g in
+          let same : enteredWith g g a (r .now) ≡ call (g .n) (g .m) (M g .ops) (r .now) (asked a) =
+          rw (self-mapped, F .self g (r .now .chooser)) (unchecked (g .n) (g .m) (M g) (g .lits) (g .literals) (g .ends) L a (r .now) (record { founded = f; stated = el; scratch = z .0; session = good })) in
+          ap (λ (x : Result (SessionOver g)). runLent g (extended (g .n) (g .m) (M g .ops) r (asked a) x) (allLent g asks)) same
+          ∙ along-book _ (L .kept (r .now) good (asked a)) asks (z .1)
+
+      pub lent-run : (asks : List Asked) → Each RightScratch asks → let start = begin (g .n) (g .m) (M g .ops) in
+          runLent g start (allLent g asks) ≡ run (g .n) (g .m) (M g .ops) start (map asked asks)
+      unfolding begin
+      lent-run asks z = along-book (begin (g .n) (g .m) (M g .ops)) (F .sound g .fresh-good (f .small) (f .stated) (f .clauses)) asks z
 
 -- every session of a run is good, so that a call on it, lent as it was made, is refused before its own tests only for its scratch
 module _ (n m : ℕ) (M : Mode) (lits : List ℕ) (literals : ℕ) (ends : List ℕ) (L : Sound n m M lits ends) (f : Founded n m lits ends) where

@@ -13,14 +13,14 @@ use Rattle.choosers.specs.Heap.{heapOps}
 use Rattle.choosers.specs.List.{listOps}
 use Rattle.book.specs.Calls.{Call, bump, decay, setDecay, insert, switchOff, decide, enqueue, learnUnit, goBack, bumpReason, group}
 use Rattle.book.specs.Chooser.{Next, chose, nothing, stuck, Operations}
-use Rattle.book.specs.Session.{Result, done, refuse, status, reply, leaves, need, Session, tuned, decided, call}
+use Rattle.book.specs.Session.{Result, done, refuse, status, reply, leaves, mapped, mapped-status, need, Session, tuned, decided, call}
 use Rattle.session.specs.Entry.{replyNumber}
 use Rattle.forms.specs.Text.{tab, newline, digits}
 use Rattle.forms.specs.TextLaws.{digits-two, digits-five, digits-room}
 use Rattle.forms.specs.Forms.{Opening, callIn, codesIn, firstIn}
-use Rattle.sheet.specs.Sheet.{replyText, answerLine, ClauseList, added, answered}
+use Rattle.sheet.specs.Sheet.{replyText, answerLine, ClauseList, added, opening, answered}
 use Rattle.sheet.specs.Turns.{answered-turns}
-use Rattle.sheet.specs.Stages.{Stage, reading, inHeap, inList, called, staged, onList, meets, turn, answers, opening, started}
+use Rattle.sheet.specs.Stages.{Stage, reading, inHeap, inList, called, onList, meets, turn, answers, started}
 use Rattle.sheet.specs.Writing.{replyOf}
 
 -- five digits, two and ten, two tabs and a newline
@@ -81,9 +81,8 @@ module _ (n m : ℕ) (O : Operations) where
   status-small s none = omega arith
   status-small s (some c) = call-few s c
 
-staged-few : {S : Type 0} (stage : S → Stage) (x : Result S) → Few x → Few (staged stage x)
-staged-few stage (done r s) q = q
-staged-few stage (refuse k) q = q
+mapped-few : {S T : Type 0} (f : S → T) (x : Result S) → Few x → Few (mapped f x)
+mapped-few f x q = rw (mapped-status f x) q
 
 added-few : (n : ℕ) (list : ClauseList) (codes : Option (List ℕ)) → Few (added n list codes)
 added-few n list none = omega arith
@@ -91,9 +90,9 @@ added-few n list (some codes) = need-few _ _ _ (omega arith) (omega arith)
 
 -- so it is of every line
 pub turn-small : (stage : Stage) (line : List ℕ) → status (turn stage line) < 100
-turn-small (reading mode n lits ends) line = staged-few (onList mode n) (added n (lits, ends) (codesIn line)) (added-few n (lits, ends) (codesIn line))
-turn-small (inHeap n lits ends s) line = staged-few (inHeap n lits ends) (called n (length ends) (heapOps n lits ends) s (callIn line)) (status-small n (length ends) (heapOps n lits ends) s (callIn line))
-turn-small (inList n lits ends s) line = staged-few (inList n lits ends) (called n (length ends) (listOps n lits) s (callIn line)) (status-small n (length ends) (listOps n lits) s (callIn line))
+turn-small (reading mode n lits ends) line = mapped-few (onList mode n) (added n (lits, ends) (codesIn line)) (added-few n (lits, ends) (codesIn line))
+turn-small (inHeap n lits ends s) line = mapped-few (inHeap n lits ends) (called n (length ends) (heapOps n lits ends) s (callIn line)) (status-small n (length ends) (heapOps n lits ends) s (callIn line))
+turn-small (inList n lits ends s) line = mapped-few (inList n lits ends) (called n (length ends) (listOps n lits) s (callIn line)) (status-small n (length ends) (listOps n lits) s (callIn line))
 
 opening-few : (o : Option Opening) → Few (opening o)
 opening-few none = omega arith
@@ -114,8 +113,9 @@ answers-short i stage (line ∷ ls) h =
       answers-short (i + 1) rest ls (omega arith),
     )
 
-started-short : (x : Result Stage) (ls : List (List ℕ)) → Few x → length ls < maxSheet → length (started x ls) ≤ answerRoom * suc (length ls)
-started-short (done r stage) ls few h =
+started-short : (x : Result Opening) (ls : List (List ℕ)) → Few x → length ls < maxSheet → length (started x ls) ≤ answerRoom * suc (length ls)
+started-short (done r o) ls few h =
+    let stage = onList (o .mode) (o .vars) ([], []) in
     omega (arith, length-append (answerLine 1 0 r) (answers 2 stage ls), answer-short 1 0 r (omega arith) (omega arith), answers-short 2 stage ls (omega arith))
 started-short (refuse k) ls few h = omega (arith, answer-short 1 k none (omega arith) few)
 

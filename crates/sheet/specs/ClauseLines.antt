@@ -16,7 +16,8 @@ use Rattle.lit.specs.Numbers.{maxClauses, maxLiterals, badLine, badClauses}
 use Rattle.formula.specs.Clauses.{clauseFits, varsBelow}
 use Rattle.formula.specs.Good.{GoodClauses, clauses-facts}
 use Rattle.formula.specs.Adding.{withEnd, fits-added}
-use Rattle.book.specs.Session.{status, reply, leaves, need}
+use Rattle.book.specs.Session.{status, reply, leaves, mapped-leaves, need}
+use Rattle.forms.specs.Letters.{clauseLetter}
 use Rattle.forms.specs.Text.{newline, find}
 use Rattle.forms.specs.Forms.{Mode, vsids, vmtf, beginsClause, codesIn, given, numbers}
 use Rattle.forms.specs.Behind.{behind}
@@ -24,7 +25,7 @@ use Rattle.forms.specs.Lines.{codes-none, codes-behind}
 use Rattle.forms.specs.Short.{listed-short}
 use Rattle.sheet.specs.declared.clauses.Added.{Added}
 use Rattle.sheet.specs.Sheet.{ClauseList, added}
-use Rattle.sheet.specs.Stages.{Stage, reading, inHeap, inList, staged-leaves, onList, clauseWith, opened, answers}
+use Rattle.sheet.specs.Stages.{Stage, reading, inHeap, inList, onList, clauseWith, opened, answers}
 use Rattle.sheet.specs.Running.{nextClause, codeCount, ClauseAdded, Slices, Takes}
 
 -- a line's first byte is the first byte from there on
@@ -33,7 +34,7 @@ unfolding beginsClause find
 begins-front [] = refl
 begins-front (b ∷ bs) =
     true-or-false (eqb b newline)
-    (λ e. rw e (sym (ne-eqb b 99 (λ c. omega (arith, eqb-true b newline e)))))
+    (λ e. rw e (sym (ne-eqb b clauseLetter (λ c. omega (arith, eqb-true b newline e)))))
     (λ e. rw e)
 
 -- the first line that is no clause line meets the session made fresh
@@ -67,7 +68,7 @@ module _ (mode : Mode) (n : ℕ) (lits ends : List ℕ) where
 
   -- and leaves a good clause list good
   pub clause-good : GoodClauses n lits ends → (codes : Option (List ℕ)) → GoodStage (leaves (reading mode n lits ends) (clauseWith mode n lits ends codes))
-  clause-good g codes = subst (λ (s : Stage). GoodStage s) (sym (staged-leaves (onList mode n) (lits, ends) (added n (lits, ends) codes))) (added-good n (lits, ends) g codes)
+  clause-good g codes = subst (λ (s : Stage). GoodStage s) (sym (mapped-leaves (onList mode n) (lits, ends) (added n (lits, ends) codes))) (added-good n (lits, ends) g codes)
 
 -- a clause line with many codes is long
 pub codes-short : (line : List ℕ) → 2 * codeCount (codesIn line) ≤ length line

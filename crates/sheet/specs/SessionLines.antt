@@ -8,13 +8,13 @@ use lib.ListN.{length}
 use Rattle.lit.specs.Numbers.{answerRoom}
 use Rattle.book.specs.Calls.{Call}
 use Rattle.book.specs.Chooser.{Operations}
-use Rattle.book.specs.Session.{Result, status, reply, leaves, Session, call}
+use Rattle.book.specs.Session.{Result, status, reply, leaves, mapped, mapped-status, mapped-reply, mapped-leaves, Session, call}
 use Rattle.session.specs.Entry.{Answered}
 use Rattle.forms.specs.Text.{written}
 use Rattle.forms.specs.Forms.{callIn}
 use Rattle.sheet.specs.declared.Place.{Place}
 use Rattle.sheet.specs.Sheet.{answerLine}
-use Rattle.sheet.specs.Stages.{Stage, called, staged, staged-status, staged-reply, staged-leaves, meets, turn, answers}
+use Rattle.sheet.specs.Stages.{Stage, called, meets, turn, answers}
 use Rattle.sheet.specs.Writing.{Wrote, same-room, replyOf}
 use Rattle.sheet.specs.Bounds.{Small, answer-short, status-small, answer-text}
 use Rattle.sheet.specs.Running.{lineLength, lineFrom, after, Room, Ended, SameEnd}
@@ -57,7 +57,7 @@ module _ {n m : ℕ} {O : Operations} (Good : Session n m O → Type 0) (s : Ses
 -- A mode: its sessions, and what they are as stages.
 pub record Mode {n m : ℕ} {O : Operations} (stage : Session n m O → Stage) : Type 0 where
   pub meets-it : (s : Session n m O) (line : List ℕ) → meets (stage s) line ≡ stage s
-  pub its-turn : (s : Session n m O) (line : List ℕ) → turn (stage s) line ≡ staged stage (called n m O s (callIn line))
+  pub its-turn : (s : Session n m O) (line : List ℕ) → turn (stage s) line ≡ mapped stage (called n m O s (callIn line))
 
 module _ {n m : ℕ} {O : Operations} {s u : Session n m O} {sheet out : List ℕ} {p : Place} (room : Room sheet p out) (more : 0 < p .left) {k r : ℕ}
     (answered : Answered (called n m O s (callIn (lineFrom sheet (p .from)))) s k r u) where
@@ -74,17 +74,17 @@ module _ {n m : ℕ} {O : Operations} {s u : Session n m O} {sheet out : List �
   line-fits = answer-room room more (answerLine (p .line) k (replyOf r)) short
 
   module _ {stage : Session n m O → Stage} (mode : Mode stage) (small : Small (reply x)) where
-    same-answer : answerLine (p .line) k (replyOf r) ≡ answerLine (p .line) (status (staged stage x)) (reply (staged stage x))
+    same-answer : answerLine (p .line) k (replyOf r) ≡ answerLine (p .line) (status (mapped stage x)) (reply (mapped stage x))
     same-answer =
         let e : replyOf r ≡ reply x = ap (λ (j : ℕ). replyOf j) (answered .reply) ∙ answer-text (reply x) small in
-        rw (staged-status stage x, staged-reply stage x, answered .status, e)
+        rw (mapped-status stage x, mapped-reply stage x, answered .status, e)
 
     module _ (Good : Session n m O → Type 0) (good : Good (leaves s x)) {out′ : List ℕ} {at : ℕ} (wrote : Wrote (p .at) (answerLine (p .line) k (replyOf r)) out out′ at) where
       end-next : SameEnd sheet p (stage s) out (after p (p .from + lineLength sheet (p .from)) at) (stage u) out′
       end-next =
-          let w : Wrote (p .at) (answerLine (p .line) (status (staged stage x)) (reply (staged stage x))) out out′ at = subst (λ (a : List ℕ). Wrote (p .at) a out out′ at) same-answer wrote in
+          let w : Wrote (p .at) (answerLine (p .line) (status (mapped stage x)) (reply (mapped stage x))) out out′ at = subst (λ (a : List ℕ). Wrote (p .at) a out out′ at) same-answer wrote in
           subst (λ (t : Stage). SameEnd sheet p (stage s) out (after p (p .from + lineLength sheet (p .from)) at) t out′)
-          (staged-leaves stage s x ∙ ap stage (sym (answered .session)))
+          (mapped-leaves stage s x ∙ ap stage (sym (answered .session)))
           ((rw (mode .meets-it s (lineFrom sheet (p .from)), mode .its-turn s (lineFrom sheet (p .from))) at (end-behind room more (stage s) {out′ = out′} {k = at})) w)
 
       -- the line is answered, and the run goes on behind it

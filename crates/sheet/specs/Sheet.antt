@@ -14,12 +14,13 @@ use Rattle.book.specs.Calls.{Call, Line}
 use Rattle.book.specs.Chooser.{Operations}
 use Rattle.book.specs.Session.{Result, done, refuse, status, leaves, need}
 use Rattle.book.specs.Claim.{log, begin, run}
+use Rattle.forms.specs.Letters.{dash}
 use Rattle.forms.specs.Text.{tab, newline, lines, occurs, digits}
 use Rattle.forms.specs.Forms.{Mode, vsids, vmtf, Opening, callIn, beginsClause, codesIn, firstIn}
 
 -- 'else `-`, also for "none" and refusals'
 abbrev pub replyText : Option ℕ → List ℕ
-replyText none = 45 ∷ []
+replyText none = dash ∷ []
 replyText (some r) = digits r
 
 -- 'Answer line: line number from 1, status, reply.'
@@ -77,14 +78,19 @@ behindFirst mode n i start ls =
     let list = listed n start cs in
     clauseAnswers n i start cs ++ sessionAnswers n (length (list .1)) (chooserOf mode n list) (i + length cs) (map callIn (drop (length cs) ls))
 
--- the first line: 3 by its form, 4 above 2,048 variables. 'Refused, it gets its answer and the run ends.'
-abbrev pub fromFirst : Option Opening → List (List ℕ) → List ℕ
-fromFirst none ls = answerLine 1 badLine none
-fromFirst (some o) ls = cond (leb (o .vars) maxVars) (answerLine 1 0 none ++ behindFirst (o .mode) (o .vars) 2 ([], []) ls) (answerLine 1 manyVars none)
+-- the first line: 3 by its form, 4 above 2,048 variables
+abbrev pub opening : Option Opening → Result Opening
+opening none = refuse badLine
+opening (some o) = need (leb (o .vars) maxVars) manyVars (done none o)
+
+-- 'Refused, it gets its answer and the run ends.' Else the answers to the lines behind it follow
+abbrev pub fromFirst : Result Opening → (Opening → List ℕ) → List ℕ
+fromFirst (done r o) behind = answerLine 1 0 r ++ behind o
+fromFirst (refuse k) behind = answerLine 1 k none
 
 unfoldable pub answered : List (List ℕ) → List ℕ
 answered [] = []
-answered (line ∷ ls) = fromFirst (firstIn line) ls
+answered (line ∷ ls) = fromFirst (opening (firstIn line)) (λ o. behindFirst (o .mode) (o .vars) 2 ([], []) ls)
 
 -- what a run of a sheet comes to with a buffer of so many bytes: the bytes that are written, or refusal 1 or 2
 unfoldable pub ran : List ℕ → ℕ → Result (List ℕ)

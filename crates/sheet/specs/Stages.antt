@@ -1,20 +1,18 @@
 -- The run of a call sheet as code goes through it, line by line: one line is one step, at a stage of the run. Turns.antt shows that it gives the
 -- answers of Sheet.antt.
 use Prim.Native.Nat.{ℕ, _+_}
-use mathlib.Core.Path.{_≡_, refl}
 use mathlib.Core.Bool.{cond}
 use mathlib.Core.Option.{Option, none, some}
 use mathlib.Core.List.{List, [], _∷_, _++_}
 use lib.ListN.{length}
-use lib.Dec.{leb}
-use Rattle.lit.specs.Numbers.{maxVars, badLine, manyVars}
+use Rattle.lit.specs.Numbers.{badLine}
 use Rattle.choosers.specs.Heap.{heapOps}
 use Rattle.choosers.specs.List.{listOps}
 use Rattle.book.specs.Calls.{Call}
 use Rattle.book.specs.Chooser.{Operations}
-use Rattle.book.specs.Session.{Result, done, refuse, status, reply, leaves, need, Session, fresh, call}
+use Rattle.book.specs.Session.{Result, refuse, status, reply, leaves, mapped, Session, fresh, call}
 use Rattle.forms.specs.Forms.{Mode, vsids, vmtf, Opening, callIn, beginsClause, codesIn}
-use Rattle.sheet.specs.Sheet.{answerLine, ClauseList, added}
+use Rattle.sheet.specs.Sheet.{answerLine, ClauseList, added, fromFirst}
 
 -- Where a run stands between two lines: among the clause lines, or in a session of either mode.
 pub data Stage : Type 0 where
@@ -27,26 +25,8 @@ unfoldable pub called : (n m : ℕ) (O : Operations) → Session n m O → Optio
 called n m O s none = refuse badLine
 called n m O s (some c) = call n m O s c
 
--- the result of a line: what it says of a session is said of the stage
-abbrev pub staged : {S : Type 0} → (S → Stage) → Result S → Result Stage
-staged f (done r s) = done r (f s)
-staged f (refuse k) = refuse k
-
-module _ {S : Type 0} (stage : S → Stage) where
-  pub staged-status : (x : Result S) → status (staged stage x) ≡ status x
-  staged-status (done r s) = refl
-  staged-status (refuse k) = refl
-
-  pub staged-reply : (x : Result S) → reply (staged stage x) ≡ reply x
-  staged-reply (done r s) = refl
-  staged-reply (refuse k) = refl
-
-  pub staged-leaves : (s : S) (x : Result S) → leaves (stage s) (staged stage x) ≡ stage (leaves s x)
-  staged-leaves s (done r u) = refl
-  staged-leaves s (refuse k) = refl
-
 abbrev callLine : (n m : ℕ) (O : Operations) → (Session n m O → Stage) → Session n m O → List ℕ → Result Stage
-callLine n m O stage s line = staged stage (called n m O s (callIn line))
+callLine n m O stage s line = mapped stage (called n m O s (callIn line))
 
 abbrev heapLine : (n : ℕ) (lits ends : List ℕ) → Session n (length ends) (heapOps n lits ends) → List ℕ → Result Stage
 heapLine n lits ends = callLine n (length ends) (heapOps n lits ends) (inHeap n lits ends)
@@ -59,7 +39,7 @@ abbrev pub onList : Mode → ℕ → ClauseList → Stage
 onList mode n list = reading mode n (list .0) (list .1)
 
 abbrev pub clauseWith : Mode → ℕ → List ℕ → List ℕ → Option (List ℕ) → Result Stage
-clauseWith mode n lits ends codes = staged (onList mode n) (added n (lits, ends) codes)
+clauseWith mode n lits ends codes = mapped (onList mode n) (added n (lits, ends) codes)
 
 -- 'The session is made fresh once these are read.'
 abbrev pub opened : Mode → ℕ → List ℕ → List ℕ → Stage
@@ -86,12 +66,6 @@ answers i stage (line ∷ ls) =
     let x = turn at line in
     answerLine i (status x) (reply x) ++ answers (i + 1) (leaves at x) ls
 
--- the first line: 3 by its form, 4 above 2,048 variables
-abbrev pub opening : Option Opening → Result Stage
-opening none = refuse badLine
-opening (some o) = need (leb (o .vars) maxVars) manyVars (done none (reading (o .mode) (o .vars) [] []))
-
--- 'Refused, it gets its answer and the run ends.'
-abbrev pub started : Result Stage → List (List ℕ) → List ℕ
-started (done r stage) ls = answerLine 1 0 r ++ answers 2 stage ls
-started (refuse k) ls = answerLine 1 k none
+-- the answers to a sheet whose first line came to x
+abbrev pub started : Result Opening → List (List ℕ) → List ℕ
+started x ls = fromFirst x (λ o. answers 2 (onList (o .mode) (o .vars) ([], [])) ls)

@@ -7,38 +7,37 @@ use mathlib.Core.Option.{Option, none, some}
 use mathlib.Core.List.{List, [], _∷_, _++_, map, reverse, append-nil, append-assoc, reverse-cons}
 use native.Mathlib.Omega.{arith}
 use lib.ListN.{length}
-use lib.Dec.{leb}
-use Rattle.lit.specs.Numbers.{maxVars, badLine}
+use Rattle.lit.specs.Numbers.{badLine}
 use Rattle.laws.specs.Tests.{true-or-false}
 use Rattle.choosers.specs.Heap.{heapOps}
 use Rattle.choosers.specs.List.{listOps}
 use Rattle.book.specs.Calls.{Call, Line}
 use Rattle.book.specs.Chooser.{Operations}
-use Rattle.book.specs.Session.{status, reply, leaves, need, Session, fresh, call}
+use Rattle.book.specs.Session.{Result, done, refuse, status, reply, leaves, logLine, mapped-status, mapped-reply, mapped-leaves, Session, fresh, call}
 use Rattle.book.specs.Claim.{log, Run, begin, step, run}
 use Rattle.forms.specs.Forms.{Mode, vsids, vmtf, Opening, callIn, codesIn, beginsClause, firstIn}
-use Rattle.sheet.specs.Sheet.{answerLine, callsOf, logged, sessionAnswers, ClauseList, chooserOf, added, clauseLines, listed, clauseAnswers, behindFirst, fromFirst, answered}
-use Rattle.sheet.specs.Stages.{Stage, inHeap, inList, called, staged-status, staged-reply, staged-leaves, onList, opened, answers, opening, started}
+use Rattle.sheet.specs.Sheet.{answerLine, callsOf, logged, sessionAnswers, ClauseList, chooserOf, added, clauseLines, listed, clauseAnswers, behindFirst, opening, fromFirst, answered}
+use Rattle.sheet.specs.Stages.{Stage, inHeap, inList, called, onList, opened, answers, started}
 use Rattle.sheet.specs.ClauseLines.{section-over, clause-reply}
 
 -- ---- a session
 module _ (n m : ℕ) (O : Operations) where
   -- what a log holds of a call, and of the calls of lines that were read, the oldest first
-  abbrev lineOf : Run n m O → Call → Line
-  lineOf r c = let x = call n m O (r .now) c in record { call = c; status = status x; reply = reply x }
+  abbrev logOne : Run n m O → Call → Line
+  logOne r c = logLine c (call n m O (r .now) c)
 
-  unfoldable linesOf : Run n m O → List (Option Call) → List Line
-  linesOf r [] = []
-  linesOf r (none ∷ cs) = linesOf r cs
-  linesOf r (some c ∷ cs) = lineOf r c ∷ linesOf (step n m O r c) cs
+  unfoldable logLines : Run n m O → List (Option Call) → List Line
+  logLines r [] = []
+  logLines r (none ∷ cs) = logLines r cs
+  logLines r (some c ∷ cs) = logOne r c ∷ logLines (step n m O r c) cs
 
-  logs : (cs : List (Option Call)) (r : Run n m O) → reverse (log ((run n m O r (callsOf cs)) .past)) ≡ reverse (log (r .past)) ++ linesOf r cs
-  unfolding callsOf run step linesOf
+  logs : (cs : List (Option Call)) (r : Run n m O) → reverse (log ((run n m O r (callsOf cs)) .past)) ≡ reverse (log (r .past)) ++ logLines r cs
+  unfolding callsOf run step logLines
   logs [] r = sym (append-nil (reverse (log (r .past))))
   logs (none ∷ cs) r = logs cs r
   logs (some c ∷ cs) r =
-      let more = linesOf (step n m O r c) cs in
-      logs cs (step n m O r c) ∙ (rw (reverse-cons (lineOf r c) (log (r .past))) (append-assoc (reverse (log (r .past))) (lineOf r c ∷ []) more))
+      let more = logLines (step n m O r c) cs in
+      logs cs (step n m O r c) ∙ (rw (reverse-cons (logOne r c) (log (r .past))) (append-assoc (reverse (log (r .past))) (logOne r c ∷ []) more))
 
   module _ (stage : Session n m O → Stage) where
     -- how a line of the session is answered
@@ -46,14 +45,14 @@ module _ (n m : ℕ) (O : Operations) where
     Answers = (s : Session n m O) (i : ℕ) (line : List ℕ) (ls : List (List ℕ)) → let x = called n m O s (callIn line) in
         answers i (stage s) (line ∷ ls) ≡ answerLine i (status x) (reply x) ++ answers (i + 1) (stage (leaves s x)) ls
 
-    tells : Answers → (ls : List (List ℕ)) (r : Run n m O) (i : ℕ) → answers i (stage (r .now)) ls ≡ logged i (map callIn ls) (linesOf r (map callIn ls))
-    unfolding answers called step logged linesOf
+    tells : Answers → (ls : List (List ℕ)) (r : Run n m O) (i : ℕ) → answers i (stage (r .now)) ls ≡ logged i (map callIn ls) (logLines r (map callIn ls))
+    unfolding answers called step logged logLines
     tells a [] r i = refl
     tells a (line ∷ ls) r i = a (r .now) i line ls ∙ go (callIn line) (tells a ls)
       where
-        go : (c : Option Call) → ((u : Run n m O) (j : ℕ) → answers j (stage (u .now)) ls ≡ logged j (map callIn ls) (linesOf u (map callIn ls)))
+        go : (c : Option Call) → ((u : Run n m O) (j : ℕ) → answers j (stage (u .now)) ls ≡ logged j (map callIn ls) (logLines u (map callIn ls)))
             → let x = called n m O (r .now) c in
-            answerLine i (status x) (reply x) ++ answers (i + 1) (stage (leaves (r .now) x)) ls ≡ logged i (c ∷ map callIn ls) (linesOf r (c ∷ map callIn ls))
+            answerLine i (status x) (reply x) ++ answers (i + 1) (stage (leaves (r .now) x)) ls ≡ logged i (c ∷ map callIn ls) (logLines r (c ∷ map callIn ls))
         go none ih = ap (λ (bs : List ℕ). answerLine i badLine none ++ bs) (ih r (i + 1))
         go (some c) ih = let x = call n m O (r .now) c in ap (λ (bs : List ℕ). answerLine i (status x) (reply x) ++ bs) (ih (step n m O r c) (i + 1))
 
@@ -67,10 +66,10 @@ opened-answers : (mode : Mode) (n : ℕ) (list : ClauseList) (i : ℕ) (ls : Lis
 unfolding answers
 opened-answers vsids n (lits, ends) i ls = session n (length ends) (heapOps n lits ends) (inHeap n lits ends) (λ s i line ls.
     let x = called n (length ends) (heapOps n lits ends) s (callIn line) in
-    rw (staged-status (inHeap n lits ends) x, staged-reply (inHeap n lits ends) x, staged-leaves (inHeap n lits ends) s x)) i ls
+    rw (mapped-status (inHeap n lits ends) x, mapped-reply (inHeap n lits ends) x, mapped-leaves (inHeap n lits ends) s x)) i ls
 opened-answers vmtf n (lits, ends) i ls = session n (length ends) (listOps n lits) (inList n lits ends) (λ s i line ls.
     let x = called n (length ends) (listOps n lits) s (callIn line) in
-    rw (staged-status (inList n lits ends) x, staged-reply (inList n lits ends) x, staged-leaves (inList n lits ends) s x)) i ls
+    rw (mapped-status (inList n lits ends) x, mapped-reply (inList n lits ends) x, mapped-leaves (inList n lits ends) s x)) i ls
 
 -- ---- the clause lines
 module _ (mode : Mode) (n : ℕ) where
@@ -90,15 +89,15 @@ module _ (mode : Mode) (n : ℕ) where
       (let x = added n list (codesIn line) in
       let cs = clauseLines ls in
       let place : i + suc (length cs) ≡ i + 1 + length cs = omega arith in
-      rw (e, clause-reply mode n (list .0) (list .1) (codesIn line), staged-status (onList mode n) x, staged-leaves (onList mode n) list x, place, sym (behind-turns ls (i + 1) (leaves list x)))
+      rw (e, clause-reply mode n (list .0) (list .1) (codesIn line), mapped-status (onList mode n) x, mapped-leaves (onList mode n) list x, place, sym (behind-turns ls (i + 1) (leaves list x)))
       (append-assoc (answerLine i (status x) none) (clauseAnswers n (i + 1) (leaves list x) cs) _)))
       (session-turns line ls i list)
 
 -- ---- a sheet
 pub answered-turns : (line : List ℕ) (ls : List (List ℕ)) → answered (line ∷ ls) ≡ started (opening (firstIn line)) ls
-unfolding answered need
-answered-turns line ls = go (firstIn line)
+unfolding answered
+answered-turns line ls = go (opening (firstIn line))
   where
-    go : (o : Option Opening) → fromFirst o ls ≡ started (opening o) ls
-    go none = refl
-    go (some o) = true-or-false (leb (o .vars) maxVars) (λ e. rw (e, behind-turns (o .mode) (o .vars) ls 2 ([], []))) (λ e. rw e)
+    go : (x : Result Opening) → fromFirst x (λ o. behindFirst (o .mode) (o .vars) 2 ([], []) ls) ≡ started x ls
+    go (done r o) = rw (behind-turns (o .mode) (o .vars) ls 2 ([], []))
+    go (refuse k) = refl

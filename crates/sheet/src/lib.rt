@@ -6,6 +6,7 @@ ghost use Rattle.lit.specs.Numbers.{maxSheet};
 ghost use Rattle.sheet.specs.Sheet.{answerLine};
 ghost use Rattle.sheet.specs.Writing.{replyOf, field, ending, Wrote};
 ghost use Rattle.sheet.specs.Running.{after};
+use forms::letters::DASH;
 use forms::text::NEWLINE;
 use forms::text::TAB;
 use lit::NONE;
@@ -28,7 +29,7 @@ fn put_ending(out: &mut [u8], at: usize, reply: u32) -> usize
     ensures { λ r. ⌜ Wrote at (ending (replyOf reply)) (now (out .entry)) (now (out .exit)) r ⌝ }
 {
     if reply == NONE {
-        out[at] = b'-';
+        out[at] = DASH;
         out[at + 1] = NEWLINE;
         return at + 2;
     }

@@ -7,8 +7,9 @@ use native.Mathlib.Omega.{arith}
 use borrow.Author.Needs.{needs}
 use lib.Dec.{eqb}
 use lib.ListN.{length, getD}
-use Rattle.forms.specs.Forms.{beginsClause}
-use Rattle.forms.specs.Kinds.{tells-clause}
+use Rattle.forms.specs.Letters.{clauseLetter}
+use Rattle.forms.specs.Forms.{isClause, beginsClause}
+use Rattle.forms.specs.Kinds.{kindNumber, tells-clause}
 use Rattle.forms.proofs.begins_clause.Statement.{statement}
 use Rattle.forms.proofs.begins_clause.Tie as tie
 
@@ -17,7 +18,7 @@ unfolding beginsClause
 empty [] e = refl
 empty (b ∷ bs) e = absurd (omega arith)
 
-first : (l : List ℕ) → (length l ≡ 0 → ⊥) → eqb (getD l 0 0) 99 ≡ beginsClause l
+first : (l : List ℕ) → (length l ≡ 0 → ⊥) → eqb (getD l 0 0) clauseLetter ≡ beginsClause l
 unfolding beginsClause
 first [] n = absurd (n refl)
 first (b ∷ bs) n = refl
@@ -28,7 +29,7 @@ returns c = empty (c .before .before .args .line .now) (c .if1 .taken)
 returns-2 : tie.Need-returns-2
 returns-2 c =
     let line = c .before .before .before .before .args .line .now in
-    ap (λ (k : ℕ). eqb k 12) (c .kind .ensures) ∙ tells-clause (getD line 0 0) ∙ first line (c .before .before .if1 .left)
+    ap (λ (k : ℕ). eqb k (kindNumber isClause)) (c .kind .ensures) ∙ tells-clause (getD line 0 0) ∙ first line (c .before .before .if1 .left)
 
 pub begins-clause-spec : {M : Type 1} → statement M
 begins-clause-spec = tie.close (tie.spec returns (λ c. search needs) (λ c κs. search needs) returns-2)

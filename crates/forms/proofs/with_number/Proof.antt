@@ -8,7 +8,7 @@ use borrow.Author.Tests.{eqb-true}
 use lib.Dec.{eqb}
 use Rattle.laws.specs.Tests.{cond-elim}
 use Rattle.forms.specs.Forms.{Kind, bumps, decays, setsDecay, inserts, switchesOff, decides, enqueues, learnsUnit, goesBack, bumpsReason, movesGroup, isClause, isFirst}
-use Rattle.forms.specs.Kinds.{ofNumber}
+use Rattle.forms.specs.Kinds.{kindNumber, ofNumber}
 use Rattle.forms.specs.Read.{numbered}
 use Rattle.forms.proofs.with_number.Statement.{statement}
 use Rattle.forms.proofs.with_number.Tie as tie
@@ -39,8 +39,8 @@ module _ (k v : ℕ) where
   record No (x : Kind) : Type 0 where
     pub is : numbered x v ≡ none
 
-  not : (i : ℕ) (x : Kind) {rest : Kind} → (k ≡ i → No x) → No rest → No (cond (eqb k i) x rest)
-  not i x h other = cond-elim No (eqb k i) (λ t. h (eqb-true k i t)) (λ f. other)
+  not : (x : Kind) {rest : Kind} → (k ≡ kindNumber x → No x) → No rest → No (cond (eqb k (kindNumber x)) x rest)
+  not x h other = cond-elim No (eqb k (kindNumber x)) (λ t. h (eqb-true k (kindNumber x) t)) (λ f. other)
 
 returns-8 : tie.Need-returns-8
 returns-8 c =
@@ -48,19 +48,19 @@ returns-8 c =
     let v = c .before .args .v in
     let n = c .match .rest in
     let no : No k v (ofNumber k) =
-    not k v 1 bumps (λ e. absurd (n .0 .0 .0 .0 .0 .0 .1 e)) (
-    not k v 2 decays (λ e. record { is = refl }) (
-    not k v 3 setsDecay (λ e. record { is = refl }) (
-    not k v 4 inserts (λ e. absurd (n .0 .0 .0 .0 .0 .1 e)) (
-    not k v 5 switchesOff (λ e. absurd (n .0 .0 .0 .0 .1 e)) (
-    not k v 6 decides (λ e. absurd (n .0 .0 .0 .1 e)) (
-    not k v 7 enqueues (λ e. record { is = refl }) (
-    not k v 8 learnsUnit (λ e. absurd (n .0 .0 .1 e)) (
-    not k v 9 goesBack (λ e. absurd (n .0 .1 e)) (
-    not k v 10 bumpsReason (λ e. absurd (n .1 e)) (
-    not k v 11 movesGroup (λ e. record { is = refl }) (
-    not k v 12 isClause (λ e. record { is = refl }) (
-    not k v 13 isFirst (λ e. record { is = refl }) (record { is = refl }))))))))))))) in
+    not k v bumps (λ e. absurd (n .0 .0 .0 .0 .0 .0 .1 e)) (
+    not k v decays (λ e. record { is = refl }) (
+    not k v setsDecay (λ e. record { is = refl }) (
+    not k v inserts (λ e. absurd (n .0 .0 .0 .0 .0 .1 e)) (
+    not k v switchesOff (λ e. absurd (n .0 .0 .0 .0 .1 e)) (
+    not k v decides (λ e. absurd (n .0 .0 .0 .1 e)) (
+    not k v enqueues (λ e. record { is = refl }) (
+    not k v learnsUnit (λ e. absurd (n .0 .0 .1 e)) (
+    not k v goesBack (λ e. absurd (n .0 .1 e)) (
+    not k v bumpsReason (λ e. absurd (n .1 e)) (
+    not k v movesGroup (λ e. record { is = refl }) (
+    not k v isClause (λ e. record { is = refl }) (
+    not k v isFirst (λ e. record { is = refl }) (record { is = refl }))))))))))))) in
     λ line. sym (no .is)
 
 pub with-number-spec : {M : Type 1} → statement M

@@ -5,6 +5,7 @@ use mathlib.Core.Path.{refl}
 use mathlib.Core.List.{[], _∷_}
 use borrow.Author.Tests.{eq-eqb, ne-eqb}
 use Rattle.lit.specs.Numbers.{NONE}
+use Rattle.forms.specs.Letters.{dash}
 use Rattle.forms.specs.Text.{newline, digits, written}
 use Rattle.sheet.specs.Writing.{ending, put-one, same-room}
 use borrow.Author.Needs.{needs}
@@ -19,7 +20,7 @@ slice-write-out-2 : tie.Need-slice-write-out-2
 unfolding ending
 slice-write-out-2 c =
     let s = c .before .before in
-    omega (arith, rw (eq-eqb (s .args .reply) NONE (c .if1 .taken)) at (s .pre), length-set (s .args .out .now) (s .args .at) 45)
+    omega (arith, rw (eq-eqb (s .args .reply) NONE (c .if1 .taken)) at (s .pre), length-set (s .args .out .now) (s .args .at) dash)
 
 returns : tie.Need-returns
 unfolding ending written

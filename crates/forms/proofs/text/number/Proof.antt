@@ -6,6 +6,7 @@ use native.Mathlib.Omega.{arith}
 use borrow.Author.Tests.{ltb-true, ltb-false}
 use lib.ListN.{length, drop, getD}
 use Rattle.lit.specs.Numbers.{NONE}
+use Rattle.forms.specs.Letters.{digitZero, digitNine}
 use Rattle.forms.specs.Text.{number}
 use Rattle.forms.specs.Reading.{numberFrom, number-next, number-low, number-high, number-over, number-end, number-starts, number-empty, number-zero}
 use Rattle.forms.specs.TextRead.{wholeOf}
@@ -39,7 +40,7 @@ shared-slice-read-b : tie.Need-shared-slice-read-b Inv-loop μ-loop
 shared-slice-read-b c = omega arith
 
 -- a byte that is no digit
-no-digit : (c : tie.After-shared-slice-known2 Inv-loop μ-loop) → let l = c .before .before .before .before .before .before .args .field .now in let b = getD l (c .before .before .loop .i) 0 in (b < 48) ⊎ (57 < b) → a-whole.Bad ≡ wholeOf (number l)
+no-digit : (c : tie.After-shared-slice-known2 Inv-loop μ-loop) → let l = c .before .before .before .before .before .before .args .field .now in let b = getD l (c .before .before .loop .i) 0 in (b < digitZero) ⊎ (digitNine < b) → a-whole.Bad ≡ wholeOf (number l)
 no-digit c w =
     let at = c .before .before .loop in
     let l = c .before .before .before .before .before .before .args .field .now in
@@ -61,7 +62,7 @@ cast-if6 : tie.Need-cast-if6 Inv-loop μ-loop
 cast-if6 c = omega arith
 
 -- what is left decides behind the next digit, too
-behind : (c : tie.Else5 Inv-loop μ-loop) → let l = c .before .before .before .before .before .before .before .before .args .field .now in let at = c .before .before .before .before .loop in number l ≡ numberFrom (at .v * 10 + (getD l (at .i) 0 - 48)) (drop (at .i + 1) l)
+behind : (c : tie.Else5 Inv-loop μ-loop) → let l = c .before .before .before .before .before .before .before .before .args .field .now in let at = c .before .before .before .before .loop in number l ≡ numberFrom (at .v * 10 + (getD l (at .i) 0 - digitZero)) (drop (at .i + 1) l)
 behind c =
     let l = c .before .before .before .before .before .before .before .before .args .field .now in
     let at = c .before .before .before .before .loop in

@@ -9,6 +9,7 @@ use borrow.Author.Tests.{ltb-true, ltb-false, eqb-true, eqb-false, not-true, not
 use lib.ListN.{length, drop, getD}
 use lib.Seq.{length-take-le, getD-take, getD-drop}
 use Rattle.lit.specs.Numbers.{NONE}
+use Rattle.forms.specs.Letters.{digitZero, digitNine}
 use Rattle.forms.specs.Text.{tab, find, number}
 use Rattle.forms.specs.TextLaws.{find-length}
 use Rattle.forms.specs.Reading.{numberFrom, upTo, field-next, find-next, find-here, find-none, digits-none, number-next, number-low, number-high, number-over, number-end, number-starts, number-empty, number-zero}
@@ -32,13 +33,13 @@ abbrev μ-loop : tie.MeasureT-loop
 μ-loop bytes at v₀ i₀ v i = length bytes - i
 
 -- a digit more
-one-more : (bytes : List ℕ) (at v i : ℕ) → Left bytes at v i → i < length bytes → (getD bytes i 0 ≡ tab → ⊥) → 48 ≤ getD bytes i 0 → getD bytes i 0 ≤ 57
-    → numberFrom 0 (upTo tab (drop at bytes)) ≡ numberFrom (v * 10 + (getD bytes i 0 - 48)) (upTo tab (drop (i + 1) bytes))
+one-more : (bytes : List ℕ) (at v i : ℕ) → Left bytes at v i → i < length bytes → (getD bytes i 0 ≡ tab → ⊥) → digitZero ≤ getD bytes i 0 → getD bytes i 0 ≤ digitNine
+    → numberFrom 0 (upTo tab (drop at bytes)) ≡ numberFrom (v * 10 + (getD bytes i 0 - digitZero)) (upTo tab (drop (i + 1) bytes))
 one-more bytes at v i l h n low high =
     l .value ∙ ap (numberFrom v) (field-next tab bytes i h n) ∙ number-next v (getD bytes i 0 ∷ upTo tab (drop (i + 1) bytes)) 0 (omega arith) low high
 
 -- a byte that is none
-no-digit : (bytes : List ℕ) (at v i : ℕ) → Left bytes at v i → i < length bytes → (getD bytes i 0 ≡ tab → ⊥) → (getD bytes i 0 < 48) ⊎ (57 < getD bytes i 0) → number (upTo tab (drop at bytes)) ≡ none
+no-digit : (bytes : List ℕ) (at v i : ℕ) → Left bytes at v i → i < length bytes → (getD bytes i 0 ≡ tab → ⊥) → (getD bytes i 0 < digitZero) ⊎ (digitNine < getD bytes i 0) → number (upTo tab (drop at bytes)) ≡ none
 no-digit bytes at v i l h n w =
     let rest = getD bytes i 0 ∷ upTo tab (drop (i + 1) bytes) in
     digits-none _ (l .value ∙ ap (numberFrom v) (field-next tab bytes i h n) ∙ ⊎-elim (number-low v rest 0 (omega arith)) (number-high v rest 0 (omega arith)) w)
@@ -54,7 +55,7 @@ module _ (bytes : List ℕ) (at v i : ℕ) (l : Left bytes at v i) (e : find tab
   digits : numberFrom 0 (upTo tab (drop at bytes)) ≡ some v
   digits = l .value ∙ rw e (number-end v [] 0 (omega arith) (l .small))
 
-  the-number : at < i → (getD bytes at 0 ≡ 48 → 1 < i - at → ⊥) → number (upTo tab (drop at bytes)) ≡ some v
+  the-number : at < i → (getD bytes at 0 ≡ digitZero → 1 < i - at → ⊥) → number (upTo tab (drop at bytes)) ≡ some v
   the-number h z = number-starts _ (omega (arith, long)) (λ w k. z (sym (first h) ∙ w) (omega (arith, long))) ∙ digits
 
 loop-holds : tie.Need-loop-holds Inv-loop μ-loop
@@ -69,7 +70,7 @@ ended c =
 
 -- what is left decides behind the next digit, too
 behind : (c : tie.Else3 Inv-loop μ-loop) → let l = c .before .before .before .before .before .before .loop in let bytes = c .before .before .before .before .before .before .before .args .bytes .now in
-    numberFrom 0 (upTo tab (drop (c .before .before .before .before .before .before .before .args .at) bytes)) ≡ numberFrom (l .value * 10 + (getD bytes (l .i) 0 - 48)) (upTo tab (drop (l .i + 1) bytes))
+    numberFrom 0 (upTo tab (drop (c .before .before .before .before .before .before .before .args .at) bytes)) ≡ numberFrom (l .value * 10 + (getD bytes (l .i) 0 - digitZero)) (upTo tab (drop (l .i + 1) bytes))
 behind c = one-more (c .before .before .before .before .before .before .before .args .bytes .now) (c .before .before .before .before .before .before .before .args .at) (c .before .before .before .before .before .before .loop .value) (c .before .before .before .before .before .before .loop .i) (c .before .before .before .before .before .before .loop .inv) (omega arith) (eqb-false _ _ (not-true _ (c .before .before .before .if1 .taken))) (c .before .if2 .left) (ltb-false _ _ (c .if3 .left))
 
 shared-slice-read-if1 : tie.Need-shared-slice-read-if1 Inv-loop μ-loop

@@ -3,6 +3,7 @@ use Prim.Native.Nat.{_≤_, _+_, _-_, _/_, _%_}
 use mathlib.Core.Path.{_≡_, _∙_, refl, sym, ap}
 use native.Mathlib.Omega.{arith}
 use lib.ListN.{length, length-set}
+use Rattle.forms.specs.Letters.{digitZero}
 use Rattle.forms.specs.Text.{digits, written}
 use Rattle.forms.specs.TextLaws.{digits-one, digits-length, digits-last-first, put-one, digits-some}
 use Rattle.forms.proofs.text.put_number.Statement.{statement}
@@ -42,7 +43,7 @@ loop-again c =
     let at = c .before .loop in
     let e : at .i - 1 ≡ a .at + length (digits (at .left / 10)) = omega (arith, digits-length (at .left) (omega arith) (omega arith)) in
     let w = sym (digits-last-first (a .at) (at .left) (at .out) (omega arith) (omega arith)) ∙ at .inv .1 .1 .1 in
-    ((omega arith, omega arith), (e, (length-set (at .out) (at .i - 1) (48 + at .left % 10) ∙ at .inv .1 .1 .0, rw e w)))
+    ((omega arith, omega arith), (e, (length-set (at .out) (at .i - 1) (digitZero + at .left % 10) ∙ at .inv .1 .1 .0, rw e w)))
 
 cast-out-2 : tie.Need-cast-out-2 Inv-loop μ-loop
 cast-out-2 c = omega arith
@@ -56,7 +57,7 @@ slice-write-out-2 c = omega (arith, digits-some 9 (c .before .before .before .be
 same-length : tie.Need-same-length Inv-loop μ-loop
 same-length c =
     let at = c .before .loop in
-    length-set (at .out) (c .before .before .before .before .args .at) (48 + at .left) ∙ at .inv .1 .1 .0
+    length-set (at .out) (c .before .before .before .before .args .at) (digitZero + at .left) ∙ at .inv .1 .1 .0
 
 returns : tie.Need-returns Inv-loop μ-loop
 returns c =
