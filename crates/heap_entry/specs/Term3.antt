@@ -61,7 +61,7 @@ module _ (n m : ℕ) (lits : List ℕ) (literals : ℕ) (ends : List ℕ) where
     unfolding heap-sound
     run-good = runs.run-good n m (heapMode n m lits ends) lits literals ends (heap-sound n m lits ends) founded calls
 
-    -- so a call on it, lent as it was made, is refused before its own tests only for its scratch
+    -- so a call on it, lent as it was made, is refused before its own tests only for a group's scratch
     pub run-unchecked : length lits ≡ literals → (a : Asked) → RightScratch a → let s = (run n m (heapOps n lits ends) (begin n m (heapOps n lits ends)) calls) .now in
         entered n m lits literals ends a s ≡ call n m (heapOps n lits ends) s (asked a)
     run-unchecked el a z = runs.run-unchecked n m (heapMode n m lits ends) lits literals ends (heap-sound n m lits ends) founded el calls a z

@@ -163,7 +163,7 @@ pub fn enter(
         (r .reply)
         (sessionOf n clauses (now (lits .entry)) (now (ends .entry)) (now (values .exit)) (now (levels .exit)) (now (reasons .exit)) (now (trail .exit)) (now (opened .exit)) (now (activity .exit)) (now (heap .exit)) (now (indices .exit)) (now (decision .exit)) (r .state)) ⌝ }
 {
-    let scratch = session::entry::scratch_lengths(vars.len(), stamps.len(), order.len());
+    let scratch = session::entry::scratch_ok(call, vars.len(), stamps.len(), order.len());
     let k = refusal(
         n,
         literals,

@@ -67,7 +67,7 @@ module _ (n m : ℕ) (lits : List ℕ) (literals : ℕ) (ends : List ℕ) where
     unfolding list-sound
     run-good = runs.run-good n m (listMode n m lits) lits literals ends (list-sound n m lits ends) founded calls
 
-    -- so a call on it, lent as it was made, is refused before its own tests only for its scratch
+    -- so a call on it, lent as it was made, is refused before its own tests only for a group's scratch
     pub run-unchecked : length lits ≡ literals → (a : Asked) → RightScratch a → let s = (run n m (listOps n lits) (begin n m (listOps n lits)) calls) .now in
         entered n m lits literals ends a s ≡ call n m (listOps n lits) s (asked a)
     run-unchecked el a z = runs.run-unchecked n m (listMode n m lits) lits literals ends (list-sound n m lits ends) founded el calls a z

@@ -180,7 +180,7 @@ pub fn enter(
         (sessionOf n clauses (now (lits .entry)) (now (values .exit)) (now (levels .exit)) (now (reasons .exit)) (now (trail .exit)) (now (opened .exit)) (now (next .exit)) (now (prev .exit)) (now (ts .exit)) (r .state)) ⌝ }
     ensures { λ r. ⌜ (now (stamps .exit) ≡ cleared (clears call (r .status)) (now (stamps .entry))) × (now (order .exit) ≡ cleared (clears call (r .status)) (now (order .entry))) ⌝ }
 {
-    let scratch = session::entry::scratch_lengths(vars.len(), stamps.len(), order.len());
+    let scratch = session::entry::scratch_ok(call, vars.len(), stamps.len(), order.len());
     let k = refusal(
         n,
         literals,

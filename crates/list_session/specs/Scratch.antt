@@ -1,41 +1,28 @@
 -- Which calls use a group's scratch.
 use Prim.Native.Nat.{ℕ}
-use mathlib.Core.Path.{_≡_, refl}
+use mathlib.Core.Path.{_≡_}
 use mathlib.Core.Logic.{_↔_}
-use mathlib.Core.Bool.{Bool, true, false}
-use native.Mathlib.Omega.{arith}
+use mathlib.Core.Bool.{Bool, true, false, _&&_}
+use mathlib.Core.List.{List}
 use borrow.Author.Tests.{eqb-true, eq-eqb}
 use lib.Dec.{eqb}
-use Rattle.session.specs.declared.Call as code
+use Rattle.laws.specs.Tests.{and-left, and-right, and-both, and-false}
+use Rattle.session.specs.declared.Call.{Call}
 use Rattle.session.specs.declared.Call.the-variants as variant
+use Rattle.session.specs.Calls.{isGroup, group-exactly}
+use Rattle.list_session.specs.Memory.{cleared}
 
 -- 'Scratch .. ends as zeros': that of an accepted group, and of no other call
-abbrev pub clears : code.Call → ℕ → Bool
-clears (variant.Bump v) k = false
-clears variant.Decay k = false
-clears (variant.SetDecay d) k = false
-clears (variant.Insert v) k = false
-clears (variant.SwitchOff v) k = false
-clears (variant.Decide p) k = false
-clears (variant.Enqueue c r) k = false
-clears (variant.LearnUnit c) k = false
-clears (variant.GoBack l) k = false
-clears (variant.BumpReason v) k = false
-clears variant.Group k = eqb k 0
-
-never : {c : code.Call} {k : ℕ} → (c ≡ variant.Group → _≡_ {A = ℕ} 0 1) → (false ≡ true) ↔ ((c ≡ variant.Group) × (k ≡ 0))
-never other = (λ e. absurd (let z : _≡_ {A = ℕ} 0 1 = cc in omega arith), λ p. absurd (let z = other (p .0) in omega arith))
+abbrev pub clears : Call → ℕ → Bool
+clears call k = isGroup call && eqb k 0
 
 -- exactly an accepted group clears it
-pub clears-exactly : (c : code.Call) (k : ℕ) → (clears c k ≡ true) ↔ ((c ≡ variant.Group) × (k ≡ 0))
-clears-exactly (variant.Bump v) k = never (λ e. cc)
-clears-exactly variant.Decay k = never (λ e. cc)
-clears-exactly (variant.SetDecay d) k = never (λ e. cc)
-clears-exactly (variant.Insert v) k = never (λ e. cc)
-clears-exactly (variant.SwitchOff v) k = never (λ e. cc)
-clears-exactly (variant.Decide p) k = never (λ e. cc)
-clears-exactly (variant.Enqueue c r) k = never (λ e. cc)
-clears-exactly (variant.LearnUnit c) k = never (λ e. cc)
-clears-exactly (variant.GoBack l) k = never (λ e. cc)
-clears-exactly (variant.BumpReason v) k = never (λ e. cc)
-clears-exactly variant.Group k = (λ e. (refl, eqb-true k 0 e), λ p. eq-eqb k 0 (p .1))
+pub clears-exactly : (c : Call) (k : ℕ) → (clears c k ≡ true) ↔ ((c ≡ variant.Group) × (k ≡ 0))
+clears-exactly c k = (
+  λ e. (group-exactly c .0 (and-left (isGroup c) _ e), eqb-true k 0 (and-right (isGroup c) _ e)),
+  λ p. and-both (group-exactly c .1 (p .0)) (eq-eqb k 0 (p .1)),
+)
+
+-- so a refused call leaves it
+pub left : (c : Call) (k : ℕ) → eqb k 0 ≡ false → (l : List ℕ) → l ≡ cleared (clears c k) l
+left c k e l = rw (e, and-false)

@@ -2,10 +2,11 @@
 ghost use mathlib.Core.Path.{_≡_};
 ghost use mathlib.Core.List.{List};
 ghost use Prim.Native.Nat.{ℕ};
-ghost use lib.ListN.{length};
 ghost use Rattle.trail.specs.Memory.{trailOf};
 ghost use Rattle.vmtf.specs.Vmtf.{vmtfOf};
 ghost use Rattle.session.specs.Calls.{callOf};
+ghost use Rattle.session.specs.Asked.{asks};
+ghost use Rattle.session.specs.Entered.{RightScratch};
 ghost use Rattle.list_session.specs.Memory.{sessionOf, Answers, cleared};
 ghost use Rattle.list_session.specs.Good.{GoodSession};
 ghost use Rattle.list_session.specs.Scratch.{clears};
@@ -42,7 +43,7 @@ pub fn step(
     order: &mut [u32],
 ) -> ListAnswer
     requires { ⌜ GoodSession n m (trailOf (now values) (now levels) (now reasons) (now trail) (now opened) (s .trail)) (vmtfOf (now next) (now prev) (now ts) (s .vmtf)) ⌝ }
-    requires { ⌜ (length (now stamps) ≡ length (now vars)) × (length (now order) ≡ length (now vars)) ⌝ }
+    requires { ⌜ RightScratch (asks call (now vars) (now stamps) (now order)) ⌝ }
     ensures { λ r. ⌜ ((lits : List ℕ) → Answers n m lits (callOf call (now (vars .entry)))
         (sessionOf n m lits (now (values .entry)) (now (levels .entry)) (now (reasons .entry)) (now (trail .entry)) (now (opened .entry)) (now (next .entry)) (now (prev .entry)) (now (ts .entry)) s)
         r

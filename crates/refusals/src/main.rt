@@ -256,6 +256,7 @@ fn try_memory() {
     let mut scratch = good();
     scratch.empty = true;
     try_both(5, scratch, Call::Group);
+    try_both(0, scratch, Call::Decay);
     let mut foreign = good();
     foreign.code = 4;
     foreign.value = 3;

@@ -8,7 +8,7 @@ use mathlib.Core.Option.{none}
 use mathlib.Core.List.{List}
 use borrow.Author.Tests.{eq-eqb}
 use lib.ListN.{length}
-use Rattle.laws.specs.Tests.{and-both}
+use Rattle.laws.specs.Tests.{true-or-false}
 use Rattle.lit.specs.Numbers.{maxVars}
 use Rattle.formula.specs.Clauses.{clausesOk}
 use Rattle.formula.specs.Good.{GoodClauses, clauses-facts}
@@ -17,9 +17,11 @@ use Rattle.trail.specs.Good.{GoodTrail}
 use Rattle.book.specs.Calls.{Call}
 use Rattle.book.specs.Chooser.{Operations}
 use Rattle.book.specs.Session.{done, status, leaves, Session, fresh, call}
+use Rattle.session.specs.declared.Call.the-variants as variant
+use Rattle.session.specs.Calls.{isGroup, group-exactly}
 use Rattle.session.specs.Asked.{Asked, asked}
 use Rattle.session.specs.Checks.{stateRefusal, size-passed, state-passed, passed-none, size-accepted, accepted, size-zero, checked-zero}
-use Rattle.session.specs.Mode.{scratchLengths, Mode, lengthsOk, entered, made}
+use Rattle.session.specs.Mode.{scratchOk, Mode, lengthsOk, entered, made}
 use Rattle.session.specs.Sizes.{both, Sizes, sizes-right, right-sizes}
 
 -- What a mode owes: which sessions are good, that the check passes exactly these, and that every call keeps them.
@@ -36,9 +38,8 @@ pub record Sound (n m : ℕ) (M : Mode) (lits ends : List ℕ) : Type 1 where
   pub kept : (s : Session n m (M .ops)) → Good s → (c : Call) → Good (leaves s (call n m (M .ops) s c))
 
 -- 'for a group's scratch the group's length'
-pub record RightScratch (a : Asked) : Type 0 where
-  pub stamps-long : length (a .stamps) ≡ length (a .vars)
-  pub order-long : length (a .order) ≡ length (a .vars)
+abbrev pub RightScratch : Asked → Type 0
+RightScratch a = a .call ≡ variant.Group → (length (a .stamps) ≡ length (a .vars)) × (length (a .order) ≡ length (a .vars))
 
 -- what an accepted creation shows of the sizes and the clause list that it was lent
 pub record Founded (n m : ℕ) (lits ends : List ℕ) : Type 0 where
@@ -69,19 +70,21 @@ module _ (n m : ℕ) (M : Mode) (lits : List ℕ) (literals : ℕ) (ends : List 
 module _ (n m : ℕ) (M : Mode) (lits : List ℕ) (literals : ℕ) (ends : List ℕ) (L : Sound n m M lits ends) where
   module _ (a : Asked) (s : Session n m (M .ops)) where
     abbrev scratch : Bool
-    scratch = scratchLengths (length (a .vars)) (length (a .stamps)) (length (a .order))
+    scratch = scratchOk (a .call) (length (a .vars)) (length (a .stamps)) (length (a .order))
+
+    right-scratch : RightScratch a → scratch ≡ true
+    right-scratch f = true-or-false (isGroup (a .call)) (λ e. let l = f (group-exactly (a .call) .0 e) in rw (e, eq-eqb _ _ (l .0), eq-eqb _ _ (l .1))) (λ e. rw e)
 
     -- memory without a refusal is good
     pub admitted : L .Typed (s .chooser) → 0 ≡ stateRefusal n (lengthsOk n m M lits literals ends s scratch) (clausesOk n lits ends) (M .state (s .trail) (s .chooser)) → GoodMemory (L .Good) lits literals ends a s
     admitted t e =
         let p = state-passed _ _ _ _ e in
         let z = sizes-right n m M lits literals ends s scratch (p .0 .lengths-ok) in
-        let l = both _ _ _ _ (z .1) in
         let g = clauses-facts n lits ends .0 (p .0 .clauses-ok) in
         record {
           founded = record { small = p .0 .small; stated = z .0 .ends-long; clauses = g };
           stated = z .0 .lits-long;
-          scratch = record { stamps-long = l .0; order-long = l .1 };
+          scratch = λ e. both _ _ _ _ (rw e at (z .1));
           session = L .right s (p .0 .small) (z .0 .ends-long) g (z .0 .trail) (z .0 .chooser) t .0 (p .1);
         }
 
@@ -93,7 +96,7 @@ module _ (n m : ℕ) (M : Mode) (lits : List ℕ) (literals : ℕ) (ends : List 
         passed-none
         (record {
           small = f .small;
-          lengths-ok = right-sizes n m M lits literals ends s scratch z (and-both (eq-eqb _ _ (g .scratch .stamps-long)) (eq-eqb _ _ (g .scratch .order-long)));
+          lengths-ok = right-sizes n m M lits literals ends s scratch z (right-scratch (g .scratch));
           clauses-ok = clauses-facts n lits ends .1 (f .clauses);
         })
         (L .right s (f .small) (f .stated) (f .clauses) (z .trail) (z .chooser) (L .chooser-typed s (g .session)) .1 (g .session))

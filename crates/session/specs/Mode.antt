@@ -1,6 +1,6 @@
 -- A mode of a session: its chooser, with the tests of the chooser's memory; and what the entry points answer for memory as lent.
 use Prim.Native.Nat.{ℕ}
-use mathlib.Core.Bool.{Bool, _&&_}
+use mathlib.Core.Bool.{Bool, _&&_, _||_, not}
 use mathlib.Core.Option.{none}
 use mathlib.Core.List.{List}
 use lib.ListN.{length}
@@ -9,6 +9,8 @@ use Rattle.formula.specs.Clauses.{clausesOk}
 use Rattle.trail.specs.Trail.{Trail}
 use Rattle.book.specs.Chooser.{Operations}
 use Rattle.book.specs.Session.{Result, done, Session, fresh, call}
+use Rattle.session.specs.declared.Call.{Call}
+use Rattle.session.specs.Calls.{isGroup}
 use Rattle.session.specs.Asked.{Asked, asked}
 use Rattle.session.specs.Entry.{sizesChecked, checked}
 
@@ -23,6 +25,10 @@ clauseLengths literals clauses lits ends = eqb (length lits) literals && eqb (le
 -- 'for a group's scratch the group's length': two slices of lengths a and b are to have length k
 abbrev pub scratchLengths : ℕ → ℕ → ℕ → Bool
 scratchLengths k a b = eqb a k && eqb b k
+
+-- that of any other call is not looked at
+abbrev pub scratchOk : Call → ℕ → ℕ → ℕ → Bool
+scratchOk call k a b = not (isGroup call) || scratchLengths k a b
 
 pub record Mode : Type 1 where
   pub ops : Operations
@@ -40,7 +46,7 @@ module _ (n m : ℕ) (M : Mode) (lits : List ℕ) (literals : ℕ) (ends : List 
   -- a call on the session as lent
   unfoldable pub entered : Asked → Session n m (M .ops) → Result (Session n m (M .ops))
   entered a s =
-      checked n (lengthsOk s (scratchLengths (length (a .vars)) (length (a .stamps)) (length (a .order)))) (clausesOk n lits ends) (M .state (s .trail) (s .chooser))
+      checked n (lengthsOk s (scratchOk (a .call) (length (a .vars)) (length (a .stamps)) (length (a .order)))) (clausesOk n lits ends) (M .state (s .trail) (s .chooser))
       (call n m (M .ops) s (asked a))
 
   -- a fresh session in the memory as lent

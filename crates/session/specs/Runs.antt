@@ -158,7 +158,7 @@ module _ (M : Lending → Mode) (into : (g h : Lending) → M g .ops .State → 
       unfolding begin
       lent-run asks z = along-book (begin (g .n) (g .m) (M g .ops)) (F .sound g .fresh-good (f .small) (f .stated) (f .clauses)) asks z
 
--- every session of a run is good, so that a call on it, lent as it was made, is refused before its own tests only for its scratch
+-- every session of a run is good, so that a call on it, lent as it was made, is refused before its own tests only for a group's scratch
 module _ (n m : ℕ) (M : Mode) (lits : List ℕ) (literals : ℕ) (ends : List ℕ) (L : Sound n m M lits ends) (f : Founded n m lits ends) where
   along-run : (r : Run n m (M .ops)) (calls : List Call) → L .Good (r .now) → L .Good ((run n m (M .ops) r calls) .now)
   unfolding run step

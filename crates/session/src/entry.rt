@@ -3,7 +3,8 @@ ghost use mathlib.Core.Path.{_≡_};
 ghost use Rattle.formula.specs.Clauses.{clausesOk};
 ghost use Rattle.trail.specs.Memory.{trailOf};
 ghost use Rattle.session.specs.Checks.{sizeRefusal};
-ghost use Rattle.session.specs.Mode.{trailLengths, clauseLengths, scratchLengths};
+ghost use Rattle.session.specs.Mode.{trailLengths, clauseLengths, scratchLengths, scratchOk};
+use crate::Call;
 use lit::BAD_CLAUSES;
 use lit::BAD_LENGTH;
 use lit::MANY_VARS;
@@ -37,6 +38,16 @@ pub fn scratch_lengths(k: usize, a: usize, b: usize) -> bool
     ensures { λ r. ⌜ r ≡ scratchLengths k a b ⌝ }
 {
     a == k && b == k
+}
+
+// Whether the scratch of a call has its lengths: for a group of k variables they are k, and for any other call it is not looked at.
+pub fn scratch_ok(call: Call, k: usize, a: usize, b: usize) -> bool
+    ensures { λ r. ⌜ r ≡ scratchOk call k a b ⌝ }
+{
+    match call {
+        Call::Group => scratch_lengths(k, a, b),
+        _ => true,
+    }
 }
 
 // The refusal of the number of variables, of the lengths or of the clause list, or 0.

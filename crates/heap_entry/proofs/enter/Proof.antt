@@ -13,7 +13,7 @@ use Rattle.heap_entry.proofs.enter.Tie as tie
 
 returns : tie.Need-returns
 unfolding entered
-returns c = rw (c .refuse .ensures) (refused _ _ _ _ _ _ _ (rw (c .before .before .before .before .before .before .before .before .before .before .before .before .scratch-lengths .ensures) at (c .before .before .refusal .ensures)) (c .before .if1 .taken))
+returns c = rw (c .refuse .ensures) (refused _ _ _ _ _ _ _ (rw (c .before .before .before .before .before .before .before .before .before .before .before .before .scratch-ok .ensures) at (c .before .before .refusal .ensures)) (c .before .if1 .taken))
 
 step-requires : tie.Need-step-requires
 unfolding heap-sound
@@ -27,12 +27,12 @@ step-requires c κs =
     (asks (a .call) (a .vars .now) (a .stamps .now) (a .order .now))
     (sessionOf n m lits ends (a .values .now) (a .levels .now) (a .reasons .now) (a .trail .now) (a .opened .now) (a .activity .now) (a .heap .now) (a .indices .now) (a .decision .now) (a .s))
     (λ v b. c .before .before .before .before .before .before .before .before .before .before .before .before .before .before .before .before .before .before .before .before .before .before .before .before .before .before .before .slice-known6 .given v)
-    (sym (c .before .before .before .before .before .before .before .before .before .if1 .left) ∙ (rw (c .before .before .before .before .before .before .before .before .before .before .before .before .before .before .before .before .before .before .before .before .scratch-lengths .ensures) at (c .before .before .before .before .before .before .before .before .before .before .refusal .ensures))) in
+    (sym (c .before .before .before .before .before .before .before .before .before .if1 .left) ∙ (rw (c .before .before .before .before .before .before .before .before .before .before .before .before .before .before .before .before .before .before .before .before .scratch-ok .ensures) at (c .before .before .before .before .before .before .before .before .before .before .refusal .ensures))) in
     g .session
 
 returns-2 : tie.Need-returns-2
 unfolding entered
-returns-2 c = rw (accepted _ _ _ _ _ (sym (c .before .before .before .before .before .before .before .before .before .before .before .before .before .before .before .before .before .before .before .before .before .before .before .before .before .before .before .before .if1 .left) ∙ (rw (c .before .before .before .before .before .before .before .before .before .before .before .before .before .before .before .before .before .before .before .before .before .before .before .before .before .before .before .before .before .before .before .before .before .before .before .before .before .before .before .scratch-lengths .ensures) at (c .before .before .before .before .before .before .before .before .before .before .before .before .before .before .before .before .before .before .before .before .before .before .before .before .before .before .before .before .before .refusal .ensures)))) (c .before .before .before .before .before .before .before .before .before .before .before .before .before .before .before .before .before .before .step .ensures)
+returns-2 c = rw (accepted _ _ _ _ _ (sym (c .before .before .before .before .before .before .before .before .before .before .before .before .before .before .before .before .before .before .before .before .before .before .before .before .before .before .before .before .if1 .left) ∙ (rw (c .before .before .before .before .before .before .before .before .before .before .before .before .before .before .before .before .before .before .before .before .before .before .before .before .before .before .before .before .before .before .before .before .before .before .before .before .before .before .before .scratch-ok .ensures) at (c .before .before .before .before .before .before .before .before .before .before .before .before .before .before .before .before .before .before .before .before .before .before .before .before .before .before .before .before .before .refusal .ensures)))) (c .before .before .before .before .before .before .before .before .before .before .before .before .before .before .before .before .before .before .step .ensures)
 
 pub enter-spec : {M : Type 1} → statement M
 enter-spec =

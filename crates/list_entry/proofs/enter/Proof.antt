@@ -7,9 +7,9 @@ use Rattle.session.specs.Checks.{refused, accepted}
 use Rattle.session.specs.Mode.{entered}
 use Rattle.session.specs.Entered.{admitted}
 use Rattle.list_session.specs.Memory.{sessionOf}
+use Rattle.list_session.specs.Scratch.{left}
 use Rattle.list_entry.specs.Entry.{listMode}
 use Rattle.list_entry.specs.Checked.{list-sound}
-use Rattle.list_entry.proofs.Entering.{left}
 use Rattle.list_entry.proofs.enter.Statement.{statement}
 use Rattle.list_entry.proofs.enter.Tie as tie
 
@@ -20,7 +20,7 @@ returns c =
     let k = c .before .before .refusal .result in
     let z = ne-eqb k 0 (c .before .if1 .taken) in
     rw (c .refuse .ensures) (
-      refused _ _ _ _ _ _ _ (rw (c .before .before .before .before .before .before .before .before .before .before .before .scratch-lengths .ensures) at (c .before .before .refusal .ensures)) (c .before .if1 .taken),
+      refused _ _ _ _ _ _ _ (rw (c .before .before .before .before .before .before .before .before .before .before .before .scratch-ok .ensures) at (c .before .before .refusal .ensures)) (c .before .if1 .taken),
       (left (a .call) k z (a .stamps .now), left (a .call) k z (a .order .now)),
     )
 
@@ -36,13 +36,13 @@ step-requires c κs =
     (asks (a .call) (a .vars .now) (a .stamps .now) (a .order .now))
     (sessionOf n m lits (a .values .now) (a .levels .now) (a .reasons .now) (a .trail .now) (a .opened .now) (a .next .now) (a .prev .now) (a .ts .now) (a .s))
     tt
-    (sym (c .before .before .before .before .before .before .before .before .before .before .if1 .left) ∙ (rw (c .before .before .before .before .before .before .before .before .before .before .before .before .before .before .before .before .before .before .before .before .scratch-lengths .ensures) at (c .before .before .before .before .before .before .before .before .before .before .before .refusal .ensures))) in
-    (g .session, (g .scratch .stamps-long, g .scratch .order-long))
+    (sym (c .before .before .before .before .before .before .before .before .before .before .if1 .left) ∙ (rw (c .before .before .before .before .before .before .before .before .before .before .before .before .before .before .before .before .before .before .before .before .scratch-ok .ensures) at (c .before .before .before .before .before .before .before .before .before .before .before .refusal .ensures))) in
+    (g .session, g .scratch)
 
 returns-2 : tie.Need-returns-2
 unfolding entered
 returns-2 c =
-    rw (accepted _ _ _ _ _ (sym (c .before .before .before .before .before .before .before .before .before .before .before .before .before .before .before .before .before .before .before .before .before .before .before .before .before .before .before .before .before .before .before .if1 .left) ∙ (rw (c .before .before .before .before .before .before .before .before .before .before .before .before .before .before .before .before .before .before .before .before .before .before .before .before .before .before .before .before .before .before .before .before .before .before .before .before .before .before .before .before .before .scratch-lengths .ensures) at (c .before .before .before .before .before .before .before .before .before .before .before .before .before .before .before .before .before .before .before .before .before .before .before .before .before .before .before .before .before .before .before .before .refusal .ensures))))
+    rw (accepted _ _ _ _ _ (sym (c .before .before .before .before .before .before .before .before .before .before .before .before .before .before .before .before .before .before .before .before .before .before .before .before .before .before .before .before .before .before .before .if1 .left) ∙ (rw (c .before .before .before .before .before .before .before .before .before .before .before .before .before .before .before .before .before .before .before .before .before .before .before .before .before .before .before .before .before .before .before .before .before .before .before .before .before .before .before .before .before .scratch-ok .ensures) at (c .before .before .before .before .before .before .before .before .before .before .before .before .before .before .before .before .before .before .before .before .before .before .before .before .before .before .before .before .before .before .before .before .refusal .ensures))))
     (c .before .before .before .before .before .before .before .before .before .before .before .before .before .before .before .before .before .before .before .before .step .ensures .0 _, c .before .before .before .before .before .before .before .before .before .before .before .before .before .before .before .before .before .before .before .before .step .ensures .1)
 
 pub enter-spec : {M : Type 1} → statement M

@@ -27,7 +27,7 @@ go-back-requires c κs =
     rw (g .trail .lengths .values-long) (g .small, (s .args .m, g .trail))
 
 group-requires : tie.Need-group-requires
-group-requires c κs = let s = c .before .before .before .before .before .before .before .before .before .before .before .before .before .before .before .before .before .before .before .before in (s .pre .0 .list, s .pre .1)
+group-requires c κs = let s = c .before .before .before .before .before .before .before .before .before .before .before .before .before .before .before .before .before .before .before .before in (s .pre .0 .list, s .pre .1 (c .before .before .before .before .before .enum-told2 .given .1))
 
 returns : tie.Need-returns
 unfolding call tuned

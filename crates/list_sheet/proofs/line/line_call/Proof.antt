@@ -6,7 +6,7 @@ use Rattle.list_sheet.proofs.line.line_call.Statement.{statement}
 use Rattle.list_sheet.proofs.line.line_call.Tie as tie
 
 step-requires : tie.Need-step-requires
-step-requires c κs = (c .before .before .before .before .before .before .before .before .before .before .before .before .before .before .before .before .before .before .before .before .before .before .before .before .pre, (refl, refl))
+step-requires c κs = (c .before .before .before .before .before .before .before .before .before .before .before .before .before .before .before .before .before .before .before .before .before .before .before .before .pre, λ e. (refl, refl))
 
 returns : tie.Need-returns
 returns c = λ lits. rw (c .refuse .ensures) (line-refused (c .before .before .before .read-call .ensures) (c .before .enum-told .given .1))
