@@ -7,6 +7,7 @@ ghost use mathlib.Core.List.{[]};
 ghost use Rattle.book.specs.Session.{leaves};
 ghost use Rattle.sheet.specs.Sheet.{ran, result};
 ghost use Rattle.sheet.specs.Writing.{Wrote};
+ghost use Rattle.desk.specs.Positions.{used, SameFrom};
 ghost use Rattle.desk.specs.Ran.{printed};
 use crate::opening::answer_all;
 use forms::text::NEWLINE;
@@ -20,10 +21,11 @@ pub mod memory;
 pub mod opening;
 
 // Runs a sheet: gives the count of bytes written to `out`, or 4294967295 minus refusal 1 or 2. The positions are working memory for the heap,
-// which takes its own where they are too few; what they hold afterwards is left open.
+// which takes its own where they are too few; what those at the front hold afterwards that a session may use is left open, and the others stay.
 pub fn run(sheet: &[u8], out: &mut [u8], positions: &mut [u32]) -> u32
     ensures { λ r. ⌜ r ≡ result (ran (now (sheet .entry)) (length (now (out .entry)))) ⌝ }
     ensures { λ _. ⌜ now (out .exit) ≡ text-spec.written 0 (leaves [] (ran (now (sheet .entry)) (length (now (out .entry))))) (now (out .entry)) ⌝ }
+    ensures { λ _. ⌜ SameFrom (used (ran (now (sheet .entry)) (length (now (out .entry)))) (text-spec.lines (now (sheet .entry))) (length (now (positions .entry)))) (now (positions .entry)) (now (positions .exit)) ⌝ }
 {
     if sheet.len() > MAX_SHEET as usize {
         return NONE - LONG_SHEET;
@@ -43,6 +45,7 @@ pub fn print(sheet: &[u8], out: &mut [u8], positions: &mut [u32]) -> usize
     requires { ⌜ 2 ≤ length (now out) ⌝ }
     ensures { λ r. ⌜ Wrote 0 (printed (ran (now (sheet .entry)) (length (now (out .entry))))) (now (out .entry)) (now (out .exit)) r ⌝ }
     ensures { λ r. ⌜ r ≤ length (now (out .entry)) ⌝ }
+    ensures { λ _. ⌜ SameFrom (used (ran (now (sheet .entry)) (length (now (out .entry)))) (text-spec.lines (now (sheet .entry))) (length (now (positions .entry)))) (now (positions .entry)) (now (positions .exit)) ⌝ }
 {
     let r = run(sheet, out, positions);
     if r < NONE - SHORT_BUFFER {

@@ -11,11 +11,11 @@ returns c =
     let s = c .before .before .before .before .before .before .before .before .before .before .before in
     let sheet = s .args .sheet .now in
     let out = s .args .out .now in
-    let w = printed-answers sheet out (c .before .before .before .before .before .run .ensures) (c .if1 .taken) in
-    (w, omega (arith, w .place, printed-fits sheet (length out) (s .pre)))
+    let w = printed-answers sheet out (s .args .positions .now) (c .before .before .before .before .before .run .ensures) (c .if1 .taken) in
+    (w, (omega (arith, w .place, printed-fits sheet (length out) (s .pre)), c .before .before .before .before .before .run .ensures .1 .1))
 
 returns-2 : tie.Need-returns-2
-returns-2 c = let s = c .before .before .before .before .before .before .before .before .before .before .before in (printed-refusal (s .args .sheet .now) (s .args .out .now) (c .before .before .before .before .before .run .ensures) (c .if1 .left), s .pre)
+returns-2 c = let s = c .before .before .before .before .before .before .before .before .before .before .before in (printed-refusal (s .args .sheet .now) (s .args .out .now) (s .args .positions .now) (c .before .before .before .before .before .run .ensures) (c .if1 .left), (s .pre, c .before .before .before .before .before .run .ensures .1 .1))
 
 pub print-spec : {M : Type 1} → statement M
 print-spec =
