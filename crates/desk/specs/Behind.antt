@@ -8,7 +8,7 @@ use lib.ListN.{length, take}
 use Rattle.lit.specs.Numbers.{maxLiterals}
 use Rattle.formula.specs.Good.{GoodClauses}
 use Rattle.forms.specs.Text.{written}
-use Rattle.forms.specs.Forms.{Mode, vsids, vmtf}
+use Rattle.forms.specs.Forms.{Mode, vsids, vmtf, Opening}
 use Rattle.sheet.specs.declared.Place.{Place}
 use Rattle.sheet.specs.declared.clauses.Section.{Section}
 use Rattle.sheet.specs.Stages.{reading, opened}
@@ -24,6 +24,10 @@ fewVars heap = cond heap heap-sizes.few list-sizes.few
 -- heap mode, or list mode
 abbrev pub modeOf : Bool → Mode
 modeOf heap = cond heap vsids vmtf
+
+-- a session in that mode, over n variables
+abbrev pub openingAt : Bool → ℕ → Opening
+openingAt heap n = record { mode = modeOf heap; vars = n }
 
 -- where no clause line comes next, what ends the run from the session on ends it
 module _ (mode : Mode) {n r : ℕ} {sheet lits ends out out′ : List ℕ} {p : Place} where

@@ -21,7 +21,8 @@ use Rattle.sheet.specs.Turns.{answered-turns}
 use Rattle.sheet.specs.Writing.{Wrote, put-more}
 use Rattle.sheet.specs.Bounds.{answer-short}
 use Rattle.sheet.specs.Running.{linesFrom, lineLength, lineFrom, after, Room, Ended}
-use Rattle.desk.specs.Behind.{modeOf}
+use Rattle.desk.specs.Behind.{modeOf, openingAt}
+use Rattle.desk.specs.Positions.{usedBy, usedOn, SameFrom}
 use Rattle.sheet.specs.Steps.{lines-more, answer-room, room-behind}
 
 -- where a run stands at the first of so many lines
@@ -29,9 +30,6 @@ abbrev pub atFirst : ℕ → Place
 atFirst count = record { from = 0; left = count; line = 1; at = 0 }
 
 -- what a first line opens, as code has it
-abbrev pub openingAt : Bool → ℕ → Opening
-openingAt heap n = record { mode = modeOf heap; vars = n }
-
 abbrev pub openingOf : code.First → Option Opening
 openingOf (first.Heap n) = some (openingAt true n)
 openingOf (first.List n) = some (openingAt false n)
@@ -59,10 +57,11 @@ module _ {sheet out : List ℕ} {count : ℕ} (room : Room sheet (atFirst count)
       let place : 0 + lineLength sheet 0 + 1 ≡ lineLength sheet 0 + 1 = omega arith in
       ap answered (lines-more room more) ∙ answered-turns (lineFrom sheet 0) (linesFrom sheet (0 + lineLength sheet 0 + 1)) ∙ ap (λ (k : ℕ). started (opening (firstIn (lineFrom sheet 0))) (linesFrom sheet k)) place
 
-  -- answered as what was read says, it is answered as the sheet says
-  pub first-done : {end r : ℕ} {x : code.First} {out′ : List ℕ} → end ≡ lineLength sheet 0 → x ≡ firstOf (firstIn (take end sheet))
-      → Wrote 0 (started (opening (openingOf x)) (linesFrom sheet (end + 1))) out out′ r → Wrote 0 (answered (lines sheet)) out out′ r
-  first-done e h w = rw (first-answers, sym e, told (firstIn (take _ sheet)) h) w
+  -- answered as what was read says, it is answered as the sheet says, and the positions that it says are used
+  pub first-done : {end r : ℕ} {x : code.First} {out′ lent lent′ : List ℕ} → end ≡ lineLength sheet 0 → x ≡ firstOf (firstIn (take end sheet))
+      → Wrote 0 (started (opening (openingOf x)) (linesFrom sheet (end + 1))) out out′ r → SameFrom (usedBy (openingOf x) (length lent)) lent lent′
+      → Wrote 0 (answered (lines sheet)) out out′ r × SameFrom (usedOn (lines sheet) (length lent)) lent lent′
+  first-done {end} e h w k = let o = told (firstIn (take end sheet)) h in (rw (first-answers, sym e, o) w, rw (lines-more room more, sym e, o) k)
 
   pub first-room : {end at : ℕ} {out′ : List ℕ} → end ≡ lineLength sheet 0 → Wrote 0 (answerLine 1 0 none) out out′ at → Room sheet (after (atFirst count) end at) out′
   first-room {end} {at} {out′} e w =

@@ -2,3 +2,4 @@
 pub mod Ran
 pub mod Behind
 pub mod First
+pub mod Positions

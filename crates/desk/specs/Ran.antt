@@ -17,35 +17,36 @@ use Rattle.sheet.specs.Writing.{Wrote}
 use Rattle.sheet.specs.Bounds.{answered-short}
 use Rattle.sheet.specs.Running.{Room}
 use Rattle.desk.specs.First.{atFirst}
+use Rattle.desk.specs.Positions.{used, usedOn, SameFrom, untouched}
 
--- what the host gets and the buffer are the run's
-abbrev Gave : (sheet out : List ℕ) → ℕ → List ℕ → Type 0
-Gave sheet out r out′ = (r ≡ result (ran sheet (length out))) × (out′ ≡ written 0 (leaves [] (ran sheet (length out))) out)
+-- what the host gets and the buffer are those of a run that comes to x
+abbrev Gave : Result (List ℕ) → List ℕ → ℕ → List ℕ → Type 0
+Gave x out r out′ = (r ≡ result x) × (out′ ≡ written 0 (leaves [] x) out)
 
-module _ (sheet out : List ℕ) where
-  pub gave-long : maxSheet < length sheet → Gave sheet out (NONE - longSheet) out
+-- and so are the lent positions
+abbrev Ran : (sheet out lent : List ℕ) → ℕ → List ℕ → List ℕ → Type 0
+Ran sheet out lent r out′ lent′ = let x = ran sheet (length out) in Gave x out r out′ × SameFrom (used x (lines sheet) (length lent)) lent lent′
+
+module _ (sheet out lent : List ℕ) where
+  pub ran-long : maxSheet < length sheet → Ran sheet out lent (NONE - longSheet) out lent
   unfolding ran need written
-  gave-long long = let e = lt-leb (length sheet) maxSheet long in (rw e, rw e)
+  ran-long long = rw (lt-leb (length sheet) maxSheet long) ((refl, refl), untouched)
 
   module _ (short : length sheet ≤ maxSheet) where
-    pub gave-no-room : length out < answerRoom * occurs newline sheet → Gave sheet out (NONE - shortBuffer) out
+    pub ran-no-room : length out < answerRoom * occurs newline sheet → Ran sheet out lent (NONE - shortBuffer) out lent
     unfolding ran need written
-    gave-no-room few =
-        let a = le-leb (length sheet) maxSheet short in
-        let b = lt-leb (answerRoom * occurs newline sheet) (length out) few in
-        (rw (a, b), rw (a, b))
+    ran-no-room few = rw (le-leb (length sheet) maxSheet short, lt-leb (answerRoom * occurs newline sheet) (length out) few) ((refl, refl), untouched)
 
     module _ (room : answerRoom * occurs newline sheet ≤ length out) where
-      pub gave-answers : {r : ℕ} {out′ : List ℕ} → Wrote 0 (answered (lines sheet)) out out′ r → Gave sheet out r out′
+      pub ran-answers : {r : ℕ} {out′ lent′ : List ℕ} → Wrote 0 (answered (lines sheet)) out out′ r × SameFrom (usedOn (lines sheet) (length lent)) lent lent′ → Ran sheet out lent r out′ lent′
       unfolding ran need
-      gave-answers w =
-          let a = le-leb (length sheet) maxSheet short in
-          let b = le-leb (answerRoom * occurs newline sheet) (length out) room in
-          (rw (a, b) (omega (arith, w .place)), rw (a, b) (w .buffer))
+      ran-answers w =
+          rw (le-leb (length sheet) maxSheet short, le-leb (answerRoom * occurs newline sheet) (length out) room)
+          ((omega (arith, w .0 .place), w .0 .buffer), w .1)
 
-      pub gave-none : occurs newline sheet ≡ 0 → Gave sheet out 0 out
+      pub ran-none : occurs newline sheet ≡ 0 → Ran sheet out lent 0 out lent
       unfolding answered written
-      gave-none empty = gave-answers (rw (lines-end sheet empty) (record { buffer = refl; place = refl }))
+      ran-none empty = ran-answers (rw (lines-end sheet empty) (record { buffer = refl; place = refl }), untouched)
 
       pub start-room : Room sheet (atFirst (occurs newline sheet)) out
       start-room = record {
@@ -56,20 +57,28 @@ module _ (sheet out : List ℕ) where
         fits = omega (arith, room);
       }
 
--- 'the program then prints 1 or 2 alone on a line'
-abbrev pub printed : Result (List ℕ) → List ℕ
-printed (done r bytes) = bytes
-printed (refuse k) = digits k ++ (newline ∷ [])
+-- a refusal alone on a line, and how many bytes that takes
+abbrev refusalLine : ℕ → List ℕ
+refusalLine k = digits k ++ (newline ∷ [])
 
--- a run writes answers for which there was room, or is refused
+abbrev pub refusalRoom : ℕ
+refusalRoom = 2
+
+-- 'the program then prints 1 or 2 alone on a line': what the program prints of a run, with a buffer of so many bytes. Where the line has no room in it,
+-- it stays a refusal.
+unfoldable pub printed : ℕ → Result (List ℕ) → Result (List ℕ)
+printed room (done r bytes) = done r bytes
+printed room (refuse k) = need (leb (length (refusalLine k)) room) k (done none (refusalLine k))
+
+-- a run writes answers for which there was room, or is refused by 1 or 2
 module _ (sheet : List ℕ) where
   ran-is : (room : ℕ) (P : Result (List ℕ) → Type 0) → (length sheet ≤ maxSheet → answerRoom * occurs newline sheet ≤ room → P (done none (answered (lines sheet))))
-      → P (refuse shortBuffer) → P (refuse longSheet) → P (ran sheet room)
+      → ((k : ℕ) → k ≤ shortBuffer → P (refuse k)) → P (ran sheet room)
   unfolding ran need
-  ran-is room P answers short long =
+  ran-is room P answers refused =
       true-or-false (leb (length sheet) maxSheet)
-      (λ a. rw a (true-or-false (leb (answerRoom * occurs newline sheet) room) (λ b. rw b (answers (leb-true (length sheet) maxSheet a) (leb-true (answerRoom * occurs newline sheet) room b))) (λ b. rw b short)))
-      (λ a. rw a long)
+      (λ a. rw a (true-or-false (leb (answerRoom * occurs newline sheet) room) (λ b. rw b (answers (leb-true (length sheet) maxSheet a) (leb-true (answerRoom * occurs newline sheet) room b))) (λ b. rw b (refused shortBuffer (omega arith)))))
+      (λ a. rw a (refused longSheet (omega arith)))
 
   -- each line has its room
   lines-fit : length sheet ≤ maxSheet → length (answered (lines sheet)) ≤ answerRoom * occurs newline sheet
@@ -78,35 +87,42 @@ module _ (sheet : List ℕ) where
   pub few-bytes : length sheet ≤ maxSheet → length (answered (lines sheet)) < NONE - shortBuffer
   few-bytes short = omega (arith, lines-fit short, occurs-length newline sheet)
 
-  pub printed-fits : (room : ℕ) → 2 ≤ room → length (printed (ran sheet room)) ≤ room
-  printed-fits room two =
-      ran-is room (λ (x : Result (List ℕ)). length (printed x) ≤ room)
-      (λ short fits. omega (arith, lines-fit short))
-      (rw (digits-one shortBuffer (omega arith)) two)
-      (rw (digits-one longSheet (omega arith)) two)
+-- a refusal's line takes two bytes
+refusal-long : (k : ℕ) → k ≤ shortBuffer → length (refusalLine k) ≡ refusalRoom
+refusal-long k small = rw (digits-one k (omega arith)) refl
 
--- what the program prints: the answers as they are written, or the refusal's digit
-module _ (sheet out : List ℕ) {r : ℕ} {out′ : List ℕ} where
-  pub printed-answers : Gave sheet out r out′ → r < NONE - shortBuffer → Wrote 0 (printed (ran sheet (length out))) out out′ r
-  printed-answers g few =
-      ran-is sheet (length out) (λ (x : Result (List ℕ)). r ≡ result x → out′ ≡ written 0 (leaves [] x) out → Wrote 0 (printed x) out out′ r)
-      (λ short fits count buffer. record { buffer = buffer; place = omega (arith, count) })
-      (λ count buffer. absurd (omega (arith, count, few)))
-      (λ count buffer. absurd (omega (arith, count, few)))
-      (g .0)
-      (g .1)
+-- with room for it, all that is printed has room
+pub printed-fits : (sheet : List ℕ) {room : ℕ} → refusalRoom ≤ room → result (printed room (ran sheet room)) ≤ room
+unfolding printed need
+printed-fits sheet {room} two =
+    ran-is sheet room (λ (x : Result (List ℕ)). result (printed room x) ≤ room)
+    (λ short fits. omega (arith, lines-fit sheet short))
+    (λ k small. rw (refusal-long k small, le-leb refusalRoom room two, refusal-long k small) two)
 
-  one-digit : (k : ℕ) → k < 10 → r ≡ NONE - k → out′ ≡ written 0 [] out → Wrote 0 (digits k ++ (newline ∷ [])) out (set (set out′ 0 (48 + (NONE - r))) 1 newline) 2
-  unfolding written
-  one-digit k small count buffer =
-      let e : NONE - r ≡ k = omega (arith, count) in
-      rw (digits-one k small, e, buffer) (record { buffer = refl; place = refl })
+-- what the program prints of a run: the answers as they are written; the refusal, as it is, without room for its line, and else its digit and a newline
+module _ (sheet out : List ℕ) {r : ℕ} {out′ : List ℕ} (g : Gave (ran sheet (length out)) out r out′) where
+  pub printed-answers : r < NONE - shortBuffer → Gave (printed (length out) (ran sheet (length out))) out r out′
+  unfolding printed
+  printed-answers few =
+      ran-is sheet (length out) (λ (x : Result (List ℕ)). Gave x out r out′ → Gave (printed (length out) x) out r out′)
+      (λ short fits g. g)
+      (λ k small g. absurd (omega (arith, g .0, few)))
+      g
 
-  pub printed-refusal : Gave sheet out r out′ → NONE - shortBuffer ≤ r → Wrote 0 (printed (ran sheet (length out))) out (set (set out′ 0 (48 + (NONE - r))) 1 newline) 2
-  printed-refusal g many =
-      ran-is sheet (length out) (λ (x : Result (List ℕ)). r ≡ result x → out′ ≡ written 0 (leaves [] x) out → Wrote 0 (printed x) out (set (set out′ 0 (48 + (NONE - r))) 1 newline) 2)
-      (λ short fits count buffer. absurd (omega (arith, count, many, few-bytes sheet short)))
-      (λ count buffer. one-digit shortBuffer (omega arith) count buffer)
-      (λ count buffer. one-digit longSheet (omega arith) count buffer)
-      (g .0)
-      (g .1)
+  pub printed-no-room : length out < refusalRoom → Gave (printed (length out) (ran sheet (length out))) out r out′
+  unfolding printed need
+  printed-no-room few =
+      ran-is sheet (length out) (λ (x : Result (List ℕ)). Gave x out r out′ → Gave (printed (length out) x) out r out′)
+      (λ short fits g. g)
+      (λ k small g. rw (refusal-long k small, lt-leb refusalRoom (length out) few) g)
+      g
+
+  pub printed-refusal : NONE - shortBuffer ≤ r → refusalRoom ≤ length out → Gave (printed (length out) (ran sheet (length out))) out refusalRoom (set (set out′ 0 (48 + (NONE - r))) 1 newline)
+  unfolding printed need written
+  printed-refusal many two =
+      ran-is sheet (length out) (λ (x : Result (List ℕ)). Gave x out r out′ → Gave (printed (length out) x) out refusalRoom (set (set out′ 0 (48 + (NONE - r))) 1 newline))
+      (λ short fits g. absurd (omega (arith, g .0, many, few-bytes sheet short)))
+      (λ k small g.
+      let e : NONE - r ≡ k = omega (arith, g .0) in
+      rw (refusal-long k small, le-leb refusalRoom (length out) two, e, digits-one k (omega arith), g .1) (refl, refl))
+      g

@@ -2,13 +2,15 @@
 ghost use mathlib.Core.Path.{_≡_};
 ghost use mathlib.Core.Bool.{Bool, true};
 ghost use mathlib.Core.List.{[]};
+ghost use mathlib.Core.Option.{some};
 ghost use Prim.Native.Nat.{_≤_};
 ghost use lib.ListN.{length};
 ghost use Rattle.lit.specs.Numbers as number;
 ghost use Rattle.formula.specs.Good.{GoodClauses};
 ghost use Rattle.sheet.specs.Stages.{reading, opened};
 ghost use Rattle.sheet.specs.Running.{Room, Holds, Ended};
-ghost use Rattle.desk.specs.Behind.{modeOf, fewVars};
+ghost use Rattle.desk.specs.Behind.{modeOf, openingAt, fewVars};
+ghost use Rattle.desk.specs.Positions.{needed, usedBy, SameFrom};
 use lit::MAX_CLAUSES;
 use lit::MAX_LITERALS;
 use lit::MAX_VARS;
@@ -192,7 +194,17 @@ fn own_positions(sheet: &[u8], out: &mut [u8], heap: bool, n: u32, p: Place) -> 
     lines_behind(sheet, out, &mut all, heap, n, p)
 }
 
-// The lines behind the first, on the positions lent where they are enough or not needed, or else on positions set up for them.
+// How many positions a session needs: one for each variable in heap mode, none in list mode.
+fn positions_needed(heap: bool, n: u32) -> usize
+    ensures { λ r. ⌜ r ≡ needed (modeOf heap) n ⌝ }
+{
+    if heap {
+        return n as usize;
+    }
+    0
+}
+
+// The lines behind the first, on those of the lent positions that the session needs, or on positions set up for them where they are too few.
 pub fn with_positions(
     sheet: &[u8],
     out: &mut [u8],
@@ -203,12 +215,11 @@ pub fn with_positions(
 ) -> usize
     requires { ⌜ Room (now sheet) p (now out) × (n ≤ number.maxVars) ⌝ }
     ensures { λ r. ⌜ Ended (now (sheet .entry)) p (reading (modeOf heap) n [] []) (now (out .entry)) r (now (out .exit)) ⌝ }
+    ensures { λ _. ⌜ SameFrom (usedBy (some (openingAt heap n)) (length (now (positions .entry)))) (now (positions .entry)) (now (positions .exit)) ⌝ }
 {
-    if !heap {
-        return lines_behind(sheet, out, positions, heap, n, p);
+    let k = positions_needed(heap, n);
+    if k > positions.len() {
+        return own_positions(sheet, out, heap, n, p);
     }
-    if n as usize <= positions.len() {
-        return lines_behind(sheet, out, positions, heap, n, p);
-    }
-    own_positions(sheet, out, heap, n, p)
+    lines_behind(sheet, out, &mut positions[..k], heap, n, p)
 }

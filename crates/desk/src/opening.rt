@@ -2,12 +2,15 @@
 ghost use mathlib.Core.Path.{_≡_};
 ghost use mathlib.Core.Option.{some};
 ghost use Prim.Native.Nat.{_+_, _<_};
+ghost use lib.ListN.{length};
 ghost use Rattle.forms.specs.Text as text-spec;
 ghost use Rattle.sheet.specs.Sheet.{opening, answered};
 ghost use Rattle.sheet.specs.Stages.{started};
 ghost use Rattle.sheet.specs.Writing.{Wrote};
 ghost use Rattle.sheet.specs.Running.{linesFrom, lineLength, Room};
-ghost use Rattle.desk.specs.First.{atFirst, openingAt};
+ghost use Rattle.desk.specs.Behind.{openingAt};
+ghost use Rattle.desk.specs.First.{atFirst};
+ghost use Rattle.desk.specs.Positions.{usedBy, usedOn, SameFrom};
 use forms::First;
 use forms::text::NEWLINE;
 use lit::BAD_LINE;
@@ -30,6 +33,7 @@ fn open(
 ) -> usize
     requires { ⌜ Room (now sheet) (atFirst count) (now out) × (0 < count) × (end ≡ lineLength (now sheet) 0) ⌝ }
     ensures { λ r. ⌜ Wrote 0 (started (opening (some (openingAt heap n))) (linesFrom (now (sheet .entry)) (end + 1))) (now (out .entry)) (now (out .exit)) r ⌝ }
+    ensures { λ _. ⌜ SameFrom (usedBy (some (openingAt heap n)) (length (now (positions .entry)))) (now (positions .entry)) (now (positions .exit)) ⌝ }
 {
     if n > MAX_VARS {
         return answer(out, 0, 1, MANY_VARS, NONE);
@@ -49,6 +53,7 @@ fn open(
 pub fn answer_all(sheet: &[u8], out: &mut [u8], positions: &mut [u32], count: u32) -> usize
     requires { ⌜ Room (now sheet) (atFirst count) (now out) × (0 < count) ⌝ }
     ensures { λ r. ⌜ Wrote 0 (answered (text-spec.lines (now (sheet .entry)))) (now (out .entry)) (now (out .exit)) r ⌝ }
+    ensures { λ _. ⌜ SameFrom (usedOn (text-spec.lines (now (sheet .entry))) (length (now (positions .entry)))) (now (positions .entry)) (now (positions .exit)) ⌝ }
 {
     let end = forms::text::find(sheet, NEWLINE);
     match forms::read_first(&sheet[..end]) {

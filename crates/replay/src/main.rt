@@ -7,7 +7,7 @@ use libc::STDOUT_FILENO;
 fn one(sheet: &[u8]) {
     let mut answers = io::large_buffer();
     let mut positions = [4294967295u32; 2048];
-    let k = desk::print(sheet, &mut answers, &mut positions);
+    let k = desk::print(sheet, &mut answers, &mut positions) as usize;
     io::write_all(STDOUT_FILENO, &answers[..k]);
     io::write_all(STDOUT_FILENO, &[b'\n']);
 }

@@ -9,7 +9,7 @@ fn main() {
     let mut answers = io::large_buffer();
     let mut positions = [4294967295u32; 2048];
     let n = io::read_full(STDIN_FILENO, &mut sheet);
-    let k = desk::print(&sheet[..n], &mut answers, &mut positions);
+    let k = desk::print(&sheet[..n], &mut answers, &mut positions) as usize;
     if !io::write_all(STDOUT_FILENO, &answers[..k]) {
         io::write_all(
             STDERR_FILENO,

@@ -10,4 +10,4 @@ sigvort-run-spec =
     (λ c. refl)
     (λ c κs. tt)
     (λ c. c .before .before .before .run .kept .1 .0)
-    (λ c. c .before .before .before .run .ensures))
+    (λ c. c .before .before .before .run .ensures .0))

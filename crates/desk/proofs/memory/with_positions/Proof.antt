@@ -1,27 +1,42 @@
--- `desk_lines::with_positions` meets its contract: in list mode no positions are needed, and in heap mode those lent are tested.
-use mathlib.Core.Path.{sym, _∙_}
-use mathlib.Core.Bool.{true≢false}
-use borrow.Author.Tests.{not-true}
+-- `desk::memory::with_positions` meets its contract: of the lent positions the session gets those that it needs, and the others stay as they were.
+use mathlib.Core.Path.{sym, ap, _∙_}
+use mathlib.Core.Bool.{Bool}
+use native.Mathlib.Omega.{arith}
+use lib.Seq.{length-take-le}
+use Rattle.desk.specs.Behind.{modeOf, openingAt}
+use Rattle.desk.specs.Positions.{needed, used-front}
+use borrow.Author.Needs.{needs}
 use Rattle.desk.proofs.memory.with_positions.Statement.{statement}
 use Rattle.desk.proofs.memory.with_positions.Tie as tie
 
+slice-aggregate-lines-behind : tie.Need-slice-aggregate-lines-behind
+slice-aggregate-lines-behind c = sym (length-take-le (c .before .before .before .positions-needed .result) (c .before .before .before .before .before .before .before .args .positions .now) (c .before .before .if1 .left))
+
 lines-behind-requires : tie.Need-lines-behind-requires
 lines-behind-requires c κs =
-    let s = c .before .before .before .before .before .before in
-    (s .pre .0, s .pre .1, λ heap. absurd (true≢false (sym heap ∙ not-true _ (c .before .before .if1 .taken))))
+    let s = c .before .before .before .before .before .before .before in
+    let k = c .before .before .before .positions-needed in
+    let long = length-take-le (k .result) (s .args .positions .now) (c .before .before .if1 .left) in
+    (s .pre .0, s .pre .1, λ heap. omega (arith, long, k .ensures ∙ ap (λ (b : Bool). needed (modeOf b) (s .args .n)) heap))
+
+returns-2 : tie.Need-returns-2
+returns-2 c =
+    let s = c .before .before .before .before .before .before .before .before .before .before .before .before in
+    let k = c .before .before .before .before .before .before .before .before .positions-needed in
+    let l = c .before .before .before .before .lines-behind in
+    (l .ensures, used-front (openingAt (s .args .heap) (s .args .n)) (s .args .positions .now) (l .last .1 .1 .0) (s .pre .1) (k .ensures) (c .before .before .before .before .before .before .before .if1 .left) (l .kept .1 .1 .0))
 
 pub with-positions-spec : {M : Type 1} → statement M
 with-positions-spec =
     tie.close
     (tie.spec
+    (λ c κs. search needs)
+    (λ c κs. search needs)
+    (λ c. search needs)
+    (λ c. search needs)
+    (λ c. search needs)
+    slice-aggregate-lines-behind
     lines-behind-requires
-    (λ c. c .before .before .before .before .lines-behind .kept .1 .0)
-    (λ c. c .before .before .before .before .lines-behind .kept .1 .1 .0)
-    (λ c. c .before .before .before .before .lines-behind .ensures)
-    (λ c κs. let s = c .before .before .before .before .before .before .before in (s .pre .0, s .pre .1, λ _. c .before .before .if2 .taken))
-    (λ c. c .before .before .before .before .lines-behind2 .kept .1 .0)
-    (λ c. c .before .before .before .before .lines-behind2 .kept .1 .1 .0)
-    (λ c. c .before .before .before .before .lines-behind2 .ensures)
-    (λ c κs. let s = c .before .before .before .before .before .before in (s .pre .0, s .pre .1))
-    (λ c. c .before .before .own-positions .kept .1 .0)
-    (λ c. c .before .before .own-positions .ensures))
+    (λ c. search needs)
+    (λ c. search needs)
+    returns-2)

@@ -5,6 +5,7 @@ use lib.Seq.{length-take-le}
 use Rattle.forms.specs.Text.{newline}
 use Rattle.forms.specs.TextLaws.{find-length}
 use Rattle.desk.specs.First.{first-fits, first-done}
+use Rattle.desk.specs.Positions.{untouched}
 use borrow.Author.Needs.{needs}
 use Rattle.desk.proofs.opening.answer_all.Statement.{statement}
 use Rattle.desk.proofs.opening.answer_all.Tie as tie
@@ -27,19 +28,19 @@ returns : tie.Need-returns
 returns c =
     let s = c .before .before .before .before .before .before .before .before .before .before .before .before in
     let w = c .before .before .answer .ensures in
-    first-done (s .pre .0) (s .pre .1) (c .before .before .before .before .before .before .before .before .find .ensures) (c .before .before .before .before .before .before .read-first .ensures) (rw (c .before .before .before .before .enum-told .given .1) w)
+    first-done (s .pre .0) (s .pre .1) (c .before .before .before .before .before .before .before .before .find .ensures) (c .before .before .before .before .before .before .read-first .ensures) (rw (c .before .before .before .before .enum-told .given .1) w) untouched
 
 returns-2 : tie.Need-returns-2
 returns-2 c =
     let s = c .before .before .before .before .before .before .before .before .before .before .before .before .before .before .before .before in
     let w = c .before .before .before .before .«open» .ensures in
-    first-done (s .pre .0) (s .pre .1) (c .before .before .before .before .before .before .before .before .before .before .before .before .find .ensures) (c .before .before .before .before .before .before .before .before .before .before .read-first .ensures) (rw (c .before .before .before .before .before .before .before .before .n .given .1) w)
+    first-done (s .pre .0) (s .pre .1) (c .before .before .before .before .before .before .before .before .before .before .before .before .find .ensures) (c .before .before .before .before .before .before .before .before .before .before .read-first .ensures) (rw (c .before .before .before .before .before .before .before .before .n .given .1) (w .0)) (rw (c .before .before .before .before .before .before .before .before .n .given .1) (w .1))
 
 returns-3 : tie.Need-returns-3
 returns-3 c =
     let s = c .before .before .before .before .before .before .before .before .before .before .before .before .before .before .before .before in
     let w = c .before .before .before .before .open2 .ensures in
-    first-done (s .pre .0) (s .pre .1) (c .before .before .before .before .before .before .before .before .before .before .before .before .find .ensures) (c .before .before .before .before .before .before .before .before .before .before .read-first .ensures) (rw (c .before .before .before .before .before .before .before .before .n2 .given .1) w)
+    first-done (s .pre .0) (s .pre .1) (c .before .before .before .before .before .before .before .before .before .before .before .before .find .ensures) (c .before .before .before .before .before .before .before .before .before .before .read-first .ensures) (rw (c .before .before .before .before .before .before .before .before .n2 .given .1) (w .0)) (rw (c .before .before .before .before .before .before .before .before .n2 .given .1) (w .1))
 
 pub answer-all-spec : {M : Type 1} → statement M
 answer-all-spec =

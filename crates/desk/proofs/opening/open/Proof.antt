@@ -6,6 +6,7 @@ use Rattle.lit.specs.Numbers.{maxVars}
 use Rattle.sheet.specs.Running.{linesFrom}
 use Rattle.sheet.specs.Steps.{line-inside}
 use Rattle.desk.specs.First.{first-fits, first-room, first-refused, first-opened}
+use Rattle.desk.specs.Positions.{untouched}
 use borrow.Author.Needs.{needs}
 use Rattle.desk.proofs.opening.open.Statement.{statement}
 use Rattle.desk.proofs.opening.open.Tie as tie
@@ -18,7 +19,7 @@ returns c =
     let s = c .before .before .before .before .before .before .before .before in
     let many : maxVars < s .args .n = search needs in
     let w = c .before .before .answer .ensures in
-    first-refused (s .args .heap) (s .args .n) many _ w
+    (first-refused (s .args .heap) (s .args .n) many _ w, untouched)
 
 answer-requires-2 : tie.Need-answer-requires-2
 answer-requires-2 c κs = let s = c .before .before .before .before .before in first-fits (s .pre .0) (s .pre .1) 0 (omega arith)
@@ -39,7 +40,7 @@ returns-2 c =
     let s = c .before .before .before .before .before .before .before .before .before .before .before .before .before .before .before .before in
     let few : s .args .n ≤ maxVars = search needs in
     let e = c .before .before .before .before .with-positions .ensures in
-    first-opened (s .args .heap) (s .args .n) few (s .args .sheet .now) (s .args .count) (s .args .end) (c .before .before .before .before .before .before .before .before .before .before .answer2 .ensures) (rw (c .before .before .before .before .before .before .before .behind .ensures) at e)
+    (first-opened (s .args .heap) (s .args .n) few (s .args .sheet .now) (s .args .count) (s .args .end) (c .before .before .before .before .before .before .before .before .before .before .answer2 .ensures) (rw (c .before .before .before .before .before .before .before .behind .ensures) at (e .0)), e .1)
 
 pub open-spec : {M : Type 1} → statement M
 open-spec =
