@@ -9,7 +9,6 @@ use lib.Dec.{T}
 use lib.Ieee.{Float, nan, inf, fin, ofBits, binary64, add, mul, div, le, lt, up, down, isNan, fits}
 use lib.Ieee.Bits.{is-true}
 use lib.Ieee.Fits.{down-pos}
-use lib.Ieee.Positive.{positive}
 use Rattle.laws.specs.Tests.{and-left, and-right}
 use Rattle.activity.specs.Doubles.{zeroActivity, one, limit, shrink, maxActivity, maxInc, minDecay, maxDecay}
 use Rattle.activity.specs.declared.Step.{Step}

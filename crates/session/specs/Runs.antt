@@ -11,7 +11,7 @@ use Rattle.laws.specs.Tests.{true-or-false}
 use Rattle.laws.specs.Each.{Each}
 use Rattle.book.specs.Calls.{Call}
 use Rattle.book.specs.Chooser.{Chooser}
-use Rattle.book.specs.Session.{Result, done, refuse, status, leaves, mapped, Session, fresh, call}
+use Rattle.book.specs.Session.{Result, done, refuse, status, leaves, mapped, Session, call}
 use Rattle.book.specs.Claim.{Run, startingWith, begin, extended, step, run, Claim}
 use Rattle.book.proofs.Books.{length-values}
 use Rattle.book.proofs.Term3.{Inv, began, stepped, turned-down}

@@ -1,6 +1,5 @@
 // What both modes share: the calls of a session, and the tests of arguments.
 ghost use mathlib.Core.Path.{_≡_};
-ghost use Prim.Native.Nat.{ℕ};
 ghost use Rattle.book.specs.Chooser.{below, goodReason};
 use lit::NONE;
 

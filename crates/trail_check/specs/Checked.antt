@@ -1,7 +1,7 @@
 -- The check's tests say what the facts say: each test against its fact or two, then the whole.
 use Prim.Native.Nat.{ℕ, zero, suc, _-_, _≤_, _<_}
 use mathlib.Core.Path.{_≡_, sym, _∙_}
-use mathlib.Core.Logic.{_↔_, _⊎_, inl, inr, _≢_, by-cases, ⊎-elim}
+use mathlib.Core.Logic.{_↔_, inl, inr, _≢_, by-cases, ⊎-elim}
 use mathlib.Core.Bool.{true, false, false≢true}
 use mathlib.Core.List.{List}
 use native.Mathlib.Omega.{arith}

@@ -1,6 +1,6 @@
 -- A good list: the facts that document 01 states of the move-to-front list, over the plain order of its variables.
 -- Assumes nothing.
-use Prim.Native.Nat.{ℕ, zero, suc, _+_, _-_, _<_, _≤_}
+use Prim.Native.Nat.{ℕ, zero, suc, _+_, _<_, _≤_}
 use mathlib.Core.Path.{_≡_, refl, sym, ap, _∙_}
 use mathlib.Core.Logic.{_≢_, _↔_, by-cases}
 use mathlib.Core.List.{List, [], _∷_}

@@ -1,7 +1,5 @@
 -- `forms::read_call` meets its contract: the table tells the kind, and each kind has its reading.
 use borrow.Author.Needs.{needs}
-use mathlib.Core.Path.{refl}
-use native.Mathlib.Omega.{arith}
 use Rattle.forms.specs.Lines.{call-none, call-kind, decay-alone, decay-not-alone, call-one}
 use Rattle.forms.proofs.read_call.Statement.{statement}
 use Rattle.forms.proofs.read_call.Tie as tie

@@ -1,11 +1,11 @@
 -- `forms::read_enqueue` meets its contract: the second tab lies between the code and the reason.
 use borrow.Author.Needs.{needs}
 use Prim.Native.Nat.{_≤_, _<_, _+_, _-_}
-use mathlib.Core.Path.{refl, sym, _∙_}
+use mathlib.Core.Path.{sym, _∙_}
 use native.Mathlib.Omega.{arith}
 use lib.ListN.{length, take, drop}
 use Rattle.forms.specs.Text.{number}
-use Rattle.forms.specs.Forms.{given, enqueueIn, reasonIn}
+use Rattle.forms.specs.Forms.{enqueueIn, reasonIn}
 use Rattle.laws.specs.Parts.{to-end}
 use Rattle.forms.specs.Lines.{second-range, two-none, two-behind, enqueue-tab}
 use Rattle.forms.specs.Told.{whole-is, whole-bad}

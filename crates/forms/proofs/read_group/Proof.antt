@@ -1,6 +1,5 @@
 -- `forms::read_group` meets its contract: what was counted is the group, unless it is too large.
 use borrow.Author.Needs.{needs}
-use mathlib.Core.Path.{_∙_}
 use lib.ListN.{drop}
 use Rattle.forms.specs.Forms.{given, numbers}
 use Rattle.forms.specs.Behind.{behind}

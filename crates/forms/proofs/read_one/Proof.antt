@@ -1,7 +1,6 @@
 -- `forms::read_one` meets its contract.
 use borrow.Author.Needs.{needs}
-use mathlib.Core.Path.{refl, sym, _∙_}
-use native.Mathlib.Omega.{arith}
+use mathlib.Core.Path.{sym, _∙_}
 use lib.ListN.{drop}
 use Rattle.forms.specs.Text.{number}
 use Rattle.forms.specs.Forms.{given, one}

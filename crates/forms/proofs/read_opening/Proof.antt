@@ -5,7 +5,7 @@ use mathlib.Core.Path.{sym, ap, _∙_}
 use native.Mathlib.Omega.{arith}
 use lib.ListN.{length, take, drop}
 use Rattle.forms.specs.Text.{number}
-use Rattle.forms.specs.Forms.{given, openingIn}
+use Rattle.forms.specs.Forms.{openingIn}
 use Rattle.forms.specs.Read.{firstOf}
 use Rattle.laws.specs.Parts.{to-end}
 use Rattle.forms.specs.Lines.{second-range, two-none, two-behind, opening-tab}

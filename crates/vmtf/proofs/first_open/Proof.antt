@@ -1,5 +1,5 @@
 -- The loop's invariant: the first open variable from curr on is the one from search on. Its measure is the list that remains.
-use Prim.Native.Nat.{_<_, _-_}
+use Prim.Native.Nat.{_<_}
 use mathlib.Core.Path.{_≡_, refl, sym, ap, _∙_}
 use native.Mathlib.Omega.{arith}
 use lib.ListN.{length}

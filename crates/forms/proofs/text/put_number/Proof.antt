@@ -1,11 +1,11 @@
 -- `forms::text::put_number` meets its contract: the digits left, written before the place, still give the whole number's.
 use Prim.Native.Nat.{_≤_, _+_, _-_, _/_, _%_}
-use mathlib.Core.Path.{_≡_, _∙_, refl, sym, ap}
+use mathlib.Core.Path.{_≡_, _∙_, refl, sym}
 use native.Mathlib.Omega.{arith}
 use lib.ListN.{length, length-set}
 use Rattle.forms.specs.Letters.{digitZero}
 use Rattle.forms.specs.Text.{digits, written}
-use Rattle.forms.specs.TextLaws.{digits-one, digits-length, digits-last-first, put-one, digits-some}
+use Rattle.forms.specs.TextLaws.{digits-length, digits-last-first, put-one, digits-some}
 use Rattle.forms.proofs.text.put_number.Statement.{statement}
 use Rattle.forms.proofs.text.put_number.Tie as tie
 
