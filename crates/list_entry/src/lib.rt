@@ -1,21 +1,20 @@
 // The entry point of a session's calls in list mode. It checks the memory that was lent, and asks nothing of its callers.
 ghost use mathlib.Core.Path.{_≡_};
-ghost use Prim.Native.Nat.{_≤_};
-ghost use lib.ListN.{length};
-ghost use Rattle.lit.specs.Numbers as number;
 ghost use Rattle.formula.specs.Clauses.{clausesOk};
-ghost use Rattle.trail.specs.Memory.{trailOf, Lengths};
+ghost use Rattle.trail.specs.Memory.{trailOf};
 ghost use Rattle.vmtf.specs.Vmtf.{vmtfOf};
 ghost use Rattle.session.specs.Asked.{asks};
 ghost use Rattle.session.specs.Checks.{stateRefusal};
 ghost use Rattle.session.specs.Entry.{Answered};
 ghost use Rattle.session.specs.Mode.{lengthsOk};
+ghost use Rattle.list_session.specs.Check.{stateOk};
 ghost use Rattle.list_session.specs.Memory.{sessionOf, cleared};
 ghost use Rattle.list_session.specs.Scratch.{clears};
-ghost use Rattle.list_entry.specs.Entry.{listLengths, stateOk, listMode, entered};
+ghost use Rattle.list_entry.specs.Entry.{listLengths, listMode, entered};
 use list_session::ListAnswer;
 use list_session::ListState;
 use list_session::refuse;
+use list_session::step::check_state;
 use list_session::step::step;
 use lit::BAD_STATE;
 use session::Call;
@@ -61,31 +60,6 @@ pub fn lengths_ok(
         return false;
     }
     scratch
-}
-
-// Whether the trail and the list are good.
-pub fn check_state(
-    m: u32,
-    values: &[u8],
-    levels: &[u32],
-    reasons: &[u32],
-    trail: &[u32],
-    opened: &[u32],
-    next: &[u32],
-    prev: &[u32],
-    ts: &[u64],
-    s: ListState,
-) -> bool
-    requires { ⌜ Lengths (length (now values)) (now values) (now levels) (now reasons) (now trail) (now opened) × (length (now values) ≤ number.maxVars) ⌝ }
-    requires { ⌜ (length (now prev) ≡ length (now next)) × (length (now ts) ≡ length (now next)) ⌝ }
-    ensures { λ r. ⌜ r ≡ stateOk m (trailOf (now (values .entry)) (now (levels .entry)) (now (reasons .entry)) (now (trail .entry)) (now (opened .entry)) (s .trail)) (vmtfOf (now (next .entry)) (now (prev .entry)) (now (ts .entry)) (s .vmtf)) ⌝ }
-{
-    let t = s.trail;
-    let l = s.vmtf;
-    if !trail_check::check_trail(m, values, levels, reasons, trail, opened, t) {
-        return false;
-    }
-    vmtf::check_list(next, prev, ts, l)
 }
 
 // The refusal of a session that was lent, or 0.
