@@ -24,7 +24,9 @@ pub mod creation;
 
 // Whether the list's slices have length n.
 fn list_lengths(n: usize, next: &[u32], prev: &[u32], ts: &[u64]) -> bool
-    ensures { λ r. ⌜ ((s : VmtfState) → r ≡ listLengths n (vmtfOf (now (next .entry)) (now (prev .entry)) (now (ts .entry)) s)) ⌝ }
+    ensures { λ r. ⌜ ((s : VmtfState) →
+        let l = vmtfOf (now (next .entry)) (now (prev .entry)) (now (ts .entry)) s in
+        r ≡ listLengths n l) ⌝ }
 {
     next.len() == n && (prev.len() == n && ts.len() == n)
 }
@@ -46,9 +48,12 @@ pub fn lengths_ok(
     ts: &[u64],
     scratch: bool,
 ) -> bool
-    ensures { λ r. ⌜ ((s : ListState) → r ≡ lengthsOk n clauses (listMode n clauses (now (lits .entry))) (now (lits .entry)) literals (now (ends .entry))
-        (sessionOf n clauses (now (lits .entry)) (now (values .entry)) (now (levels .entry)) (now (reasons .entry)) (now (trail .entry)) (now (opened .entry)) (now (next .entry)) (now (prev .entry)) (now (ts .entry)) s)
-        scratch) ⌝ }
+    ensures { λ r. ⌜ ((s : ListState) →
+        let lent = sessionOf n clauses (now (lits .entry))
+        (now (values .entry)) (now (levels .entry)) (now (reasons .entry)) (now (trail .entry)) (now (opened .entry))
+        (now (next .entry)) (now (prev .entry)) (now (ts .entry)) s in
+        let mode = listMode n clauses (now (lits .entry)) in
+        r ≡ lengthsOk n clauses mode (now (lits .entry)) literals (now (ends .entry)) lent scratch) ⌝ }
 {
     if !session::entry::trail_lengths(n as usize, values, levels, reasons, trail, opened) {
         return false;
@@ -80,12 +85,13 @@ fn refusal(
     s: ListState,
     scratch: bool,
 ) -> u32
-    ensures { λ r. ⌜ r ≡ stateRefusal n
-        (lengthsOk n clauses (listMode n clauses (now (lits .entry))) (now (lits .entry)) literals (now (ends .entry))
-        (sessionOf n clauses (now (lits .entry)) (now (values .entry)) (now (levels .entry)) (now (reasons .entry)) (now (trail .entry)) (now (opened .entry)) (now (next .entry)) (now (prev .entry)) (now (ts .entry)) s)
-        scratch)
-        (clausesOk n (now (lits .entry)) (now (ends .entry)))
-        (stateOk clauses (trailOf (now (values .entry)) (now (levels .entry)) (now (reasons .entry)) (now (trail .entry)) (now (opened .entry)) (s .trail)) (vmtfOf (now (next .entry)) (now (prev .entry)) (now (ts .entry)) (s .vmtf))) ⌝ }
+    ensures { λ r.
+        let lent = sessionOf n clauses (now (lits .entry))
+        (now (values .entry)) (now (levels .entry)) (now (reasons .entry)) (now (trail .entry)) (now (opened .entry))
+        (now (next .entry)) (now (prev .entry)) (now (ts .entry)) s in
+        let mode = listMode n clauses (now (lits .entry)) in
+        let lengths = lengthsOk n clauses mode (now (lits .entry)) literals (now (ends .entry)) lent scratch in
+        ⌜ r ≡ stateRefusal n lengths (clausesOk n (now (lits .entry)) (now (ends .entry))) (stateOk clauses (lent .trail) (lent .chooser)) ⌝ }
 {
     let lengths = lengths_ok(
         n,
@@ -145,14 +151,18 @@ pub fn enter(
     stamps: &mut [u64],
     order: &mut [u32],
 ) -> ListAnswer
-    ensures { λ r. ⌜ Answered
-        (entered n clauses (now (lits .entry)) literals (now (ends .entry)) (asks call (now (vars .entry)) (now (stamps .entry)) (now (order .entry)))
-        (sessionOf n clauses (now (lits .entry)) (now (values .entry)) (now (levels .entry)) (now (reasons .entry)) (now (trail .entry)) (now (opened .entry)) (now (next .entry)) (now (prev .entry)) (now (ts .entry)) s))
-        (sessionOf n clauses (now (lits .entry)) (now (values .entry)) (now (levels .entry)) (now (reasons .entry)) (now (trail .entry)) (now (opened .entry)) (now (next .entry)) (now (prev .entry)) (now (ts .entry)) s)
-        (r .status)
-        (r .reply)
-        (sessionOf n clauses (now (lits .entry)) (now (values .exit)) (now (levels .exit)) (now (reasons .exit)) (now (trail .exit)) (now (opened .exit)) (now (next .exit)) (now (prev .exit)) (now (ts .exit)) (r .state)) ⌝ }
-    ensures { λ r. ⌜ (now (stamps .exit) ≡ cleared (clears call (r .status)) (now (stamps .entry))) × (now (order .exit) ≡ cleared (clears call (r .status)) (now (order .entry))) ⌝ }
+    ensures { λ r.
+        let before = sessionOf n clauses (now (lits .entry))
+        (now (values .entry)) (now (levels .entry)) (now (reasons .entry)) (now (trail .entry)) (now (opened .entry))
+        (now (next .entry)) (now (prev .entry)) (now (ts .entry)) s in
+        let after = sessionOf n clauses (now (lits .entry))
+        (now (values .exit)) (now (levels .exit)) (now (reasons .exit)) (now (trail .exit)) (now (opened .exit))
+        (now (next .exit)) (now (prev .exit)) (now (ts .exit)) (r .state) in
+        let asked = asks call (now (vars .entry)) (now (stamps .entry)) (now (order .entry)) in
+        ⌜ Answered (entered n clauses (now (lits .entry)) literals (now (ends .entry)) asked before) before (r .status) (r .reply) after ⌝ }
+    ensures { λ r.
+        let used = clears call (r .status) in
+        ⌜ (now (stamps .exit) ≡ cleared used (now (stamps .entry))) × (now (order .exit) ≡ cleared used (now (order .entry))) ⌝ }
 {
     let scratch = session::entry::scratch_ok(call, vars.len(), stamps.len(), order.len());
     let k = refusal(

@@ -45,13 +45,21 @@ pub fn step(
     stamps: &mut [u64],
     order: &mut [u32],
 ) -> ListAnswer
-    requires { ⌜ GoodSession n m (trailOf (now values) (now levels) (now reasons) (now trail) (now opened) (s .trail)) (vmtfOf (now next) (now prev) (now ts) (s .vmtf)) ⌝ }
+    requires { let t = trailOf (now values) (now levels) (now reasons) (now trail) (now opened) (s .trail) in
+        let l = vmtfOf (now next) (now prev) (now ts) (s .vmtf) in
+        ⌜ GoodSession n m t l ⌝ }
     requires { ⌜ RightScratch (asks call (now vars) (now stamps) (now order)) ⌝ }
-    ensures { λ r. ⌜ ((lits : List ℕ) → Answers n m lits (callOf call (now (vars .entry)))
-        (sessionOf n m lits (now (values .entry)) (now (levels .entry)) (now (reasons .entry)) (now (trail .entry)) (now (opened .entry)) (now (next .entry)) (now (prev .entry)) (now (ts .entry)) s)
-        r
-        (sessionOf n m lits (now (values .exit)) (now (levels .exit)) (now (reasons .exit)) (now (trail .exit)) (now (opened .exit)) (now (next .exit)) (now (prev .exit)) (now (ts .exit)) (r .state))) ⌝ }
-    ensures { λ r. ⌜ (now (stamps .exit) ≡ cleared (clears call (r .status)) (now (stamps .entry))) × (now (order .exit) ≡ cleared (clears call (r .status)) (now (order .entry))) ⌝ }
+    ensures { λ r. ⌜ ((lits : List ℕ) →
+        let before = sessionOf n m lits
+        (now (values .entry)) (now (levels .entry)) (now (reasons .entry)) (now (trail .entry)) (now (opened .entry))
+        (now (next .entry)) (now (prev .entry)) (now (ts .entry)) s in
+        let after = sessionOf n m lits
+        (now (values .exit)) (now (levels .exit)) (now (reasons .exit)) (now (trail .exit)) (now (opened .exit))
+        (now (next .exit)) (now (prev .exit)) (now (ts .exit)) (r .state) in
+        Answers n m lits (callOf call (now (vars .entry))) before r after) ⌝ }
+    ensures { λ r.
+        let used = clears call (r .status) in
+        ⌜ (now (stamps .exit) ≡ cleared used (now (stamps .entry))) × (now (order .exit) ≡ cleared used (now (order .entry))) ⌝ }
 {
     let t = s.trail;
     let l = s.vmtf;
@@ -103,9 +111,13 @@ pub fn check_state(
     ts: &[u64],
     s: ListState,
 ) -> bool
-    requires { ⌜ Lengths (length (now values)) (now values) (now levels) (now reasons) (now trail) (now opened) × (length (now values) ≤ number.maxVars) ⌝ }
+    requires { ⌜ Lengths (length (now values)) (now values) (now levels) (now reasons) (now trail) (now opened)
+        × (length (now values) ≤ number.maxVars) ⌝ }
     requires { ⌜ (length (now prev) ≡ length (now next)) × (length (now ts) ≡ length (now next)) ⌝ }
-    ensures { λ r. ⌜ r ≡ stateOk m (trailOf (now (values .entry)) (now (levels .entry)) (now (reasons .entry)) (now (trail .entry)) (now (opened .entry)) (s .trail)) (vmtfOf (now (next .entry)) (now (prev .entry)) (now (ts .entry)) (s .vmtf)) ⌝ }
+    ensures { λ r.
+        let t = trailOf (now (values .entry)) (now (levels .entry)) (now (reasons .entry)) (now (trail .entry)) (now (opened .entry)) (s .trail) in
+        let l = vmtfOf (now (next .entry)) (now (prev .entry)) (now (ts .entry)) (s .vmtf) in
+        ⌜ r ≡ stateOk m t l ⌝ }
 {
     let t = s.trail;
     let l = s.vmtf;
