@@ -47,13 +47,14 @@ pub fn fresh(
     indices: &mut [u32],
     decision: &mut [bool],
 ) -> HeapAnswer
-    ensures { λ r. ⌜ Answered
-        (made n clauses (now (lits .entry)) literals (now (ends .entry))
-        (sessionOf n clauses (now (lits .entry)) (now (ends .entry)) (now (values .entry)) (now (levels .entry)) (now (reasons .entry)) (now (trail .entry)) (now (opened .entry)) (now (activity .entry)) (now (heap .entry)) (now (indices .entry)) (now (decision .entry)) blank))
-        (sessionOf n clauses (now (lits .entry)) (now (ends .entry)) (now (values .entry)) (now (levels .entry)) (now (reasons .entry)) (now (trail .entry)) (now (opened .entry)) (now (activity .entry)) (now (heap .entry)) (now (indices .entry)) (now (decision .entry)) blank)
-        (r .status)
-        (r .reply)
-        (sessionOf n clauses (now (lits .entry)) (now (ends .entry)) (now (values .exit)) (now (levels .exit)) (now (reasons .exit)) (now (trail .exit)) (now (opened .exit)) (now (activity .exit)) (now (heap .exit)) (now (indices .exit)) (now (decision .exit)) (r .state)) ⌝ }
+    ensures { λ r.
+        let before = sessionOf n clauses (now (lits .entry)) (now (ends .entry))
+        (now (values .entry)) (now (levels .entry)) (now (reasons .entry)) (now (trail .entry)) (now (opened .entry))
+        (now (activity .entry)) (now (heap .entry)) (now (indices .entry)) (now (decision .entry)) blank in
+        let after = sessionOf n clauses (now (lits .entry)) (now (ends .entry))
+        (now (values .exit)) (now (levels .exit)) (now (reasons .exit)) (now (trail .exit)) (now (opened .exit))
+        (now (activity .exit)) (now (heap .exit)) (now (indices .exit)) (now (decision .exit)) (r .state) in
+        ⌜ Answered (made n clauses (now (lits .entry)) literals (now (ends .entry)) before) before (r .status) (r .reply) after ⌝ }
 {
     let lengths = lengths_ok(
         n,

@@ -29,7 +29,9 @@ fn heap_lengths(
     indices: &[u32],
     decision: &[bool],
 ) -> bool
-    ensures { λ r. ⌜ ((s : VsidsState) → r ≡ heapLengths n (vsidsOf (now (activity .entry)) (now (heap .entry)) (now (indices .entry)) (now (decision .entry)) s)) ⌝ }
+    ensures { λ r. ⌜ ((s : VsidsState) →
+        let h = vsidsOf (now (activity .entry)) (now (heap .entry)) (now (indices .entry)) (now (decision .entry)) s in
+        r ≡ heapLengths n h) ⌝ }
 {
     activity.len() == n && (heap.len() == n && (indices.len() == n && decision.len() == n))
 }
@@ -52,9 +54,12 @@ pub fn lengths_ok(
     decision: &[bool],
     scratch: bool,
 ) -> bool
-    ensures { λ r. ⌜ ((s : HeapState) → r ≡ lengthsOk n clauses (heapMode n clauses (now (lits .entry)) (now (ends .entry))) (now (lits .entry)) literals (now (ends .entry))
-        (sessionOf n clauses (now (lits .entry)) (now (ends .entry)) (now (values .entry)) (now (levels .entry)) (now (reasons .entry)) (now (trail .entry)) (now (opened .entry)) (now (activity .entry)) (now (heap .entry)) (now (indices .entry)) (now (decision .entry)) s)
-        scratch) ⌝ }
+    ensures { λ r. ⌜ ((s : HeapState) →
+        let lent = sessionOf n clauses (now (lits .entry)) (now (ends .entry))
+        (now (values .entry)) (now (levels .entry)) (now (reasons .entry)) (now (trail .entry)) (now (opened .entry))
+        (now (activity .entry)) (now (heap .entry)) (now (indices .entry)) (now (decision .entry)) s in
+        let mode = heapMode n clauses (now (lits .entry)) (now (ends .entry)) in
+        r ≡ lengthsOk n clauses mode (now (lits .entry)) literals (now (ends .entry)) lent scratch) ⌝ }
 {
     if !session::entry::trail_lengths(n as usize, values, levels, reasons, trail, opened) {
         return false;
@@ -87,12 +92,13 @@ fn refusal(
     s: HeapState,
     scratch: bool,
 ) -> u32
-    ensures { λ r. ⌜ r ≡ stateRefusal n
-        (lengthsOk n clauses (heapMode n clauses (now (lits .entry)) (now (ends .entry))) (now (lits .entry)) literals (now (ends .entry))
-        (sessionOf n clauses (now (lits .entry)) (now (ends .entry)) (now (values .entry)) (now (levels .entry)) (now (reasons .entry)) (now (trail .entry)) (now (opened .entry)) (now (activity .entry)) (now (heap .entry)) (now (indices .entry)) (now (decision .entry)) s)
-        scratch)
-        (clausesOk n (now (lits .entry)) (now (ends .entry)))
-        (stateOk clauses (trailOf (now (values .entry)) (now (levels .entry)) (now (reasons .entry)) (now (trail .entry)) (now (opened .entry)) (s .trail)) (vsidsOf (now (activity .entry)) (now (heap .entry)) (now (indices .entry)) (now (decision .entry)) (s .vsids))) ⌝ }
+    ensures { λ r.
+        let lent = sessionOf n clauses (now (lits .entry)) (now (ends .entry))
+        (now (values .entry)) (now (levels .entry)) (now (reasons .entry)) (now (trail .entry)) (now (opened .entry))
+        (now (activity .entry)) (now (heap .entry)) (now (indices .entry)) (now (decision .entry)) s in
+        let mode = heapMode n clauses (now (lits .entry)) (now (ends .entry)) in
+        let lengths = lengthsOk n clauses mode (now (lits .entry)) literals (now (ends .entry)) lent scratch in
+        ⌜ r ≡ stateRefusal n lengths (clausesOk n (now (lits .entry)) (now (ends .entry))) (stateOk clauses (lent .trail) (lent .chooser)) ⌝ }
 {
     let lengths = lengths_ok(
         n,
@@ -155,13 +161,15 @@ pub fn enter(
     stamps: &[u64],
     order: &[u32],
 ) -> HeapAnswer
-    ensures { λ r. ⌜ Answered
-        (entered n clauses (now (lits .entry)) literals (now (ends .entry)) (asks call (now (vars .entry)) (now (stamps .entry)) (now (order .entry)))
-        (sessionOf n clauses (now (lits .entry)) (now (ends .entry)) (now (values .entry)) (now (levels .entry)) (now (reasons .entry)) (now (trail .entry)) (now (opened .entry)) (now (activity .entry)) (now (heap .entry)) (now (indices .entry)) (now (decision .entry)) s))
-        (sessionOf n clauses (now (lits .entry)) (now (ends .entry)) (now (values .entry)) (now (levels .entry)) (now (reasons .entry)) (now (trail .entry)) (now (opened .entry)) (now (activity .entry)) (now (heap .entry)) (now (indices .entry)) (now (decision .entry)) s)
-        (r .status)
-        (r .reply)
-        (sessionOf n clauses (now (lits .entry)) (now (ends .entry)) (now (values .exit)) (now (levels .exit)) (now (reasons .exit)) (now (trail .exit)) (now (opened .exit)) (now (activity .exit)) (now (heap .exit)) (now (indices .exit)) (now (decision .exit)) (r .state)) ⌝ }
+    ensures { λ r.
+        let before = sessionOf n clauses (now (lits .entry)) (now (ends .entry))
+        (now (values .entry)) (now (levels .entry)) (now (reasons .entry)) (now (trail .entry)) (now (opened .entry))
+        (now (activity .entry)) (now (heap .entry)) (now (indices .entry)) (now (decision .entry)) s in
+        let after = sessionOf n clauses (now (lits .entry)) (now (ends .entry))
+        (now (values .exit)) (now (levels .exit)) (now (reasons .exit)) (now (trail .exit)) (now (opened .exit))
+        (now (activity .exit)) (now (heap .exit)) (now (indices .exit)) (now (decision .exit)) (r .state) in
+        let asked = asks call (now (vars .entry)) (now (stamps .entry)) (now (order .entry)) in
+        ⌜ Answered (entered n clauses (now (lits .entry)) literals (now (ends .entry)) asked before) before (r .status) (r .reply) after ⌝ }
 {
     let scratch = session::entry::scratch_ok(call, vars.len(), stamps.len(), order.len());
     let k = refusal(

@@ -36,11 +36,17 @@ pub fn decide(
     s: HeapState,
     p: u32,
 ) -> HeapAnswer
-    requires { ⌜ Steady (length (now values)) (trailOf (now values) (now levels) (now reasons) (now trail) (now opened) (s .trail)) (vsidsOf (now activity) (now heap) (now indices) (now decision) (s .vsids)) ⌝ }
-    ensures { λ r. ⌜ ((n m : ℕ) (lits ends : List ℕ) → Answers n m lits ends (book.decide p)
-        (sessionOf n m lits ends (now (values .entry)) (now (levels .entry)) (now (reasons .entry)) (now (trail .entry)) (now (opened .entry)) (now (activity .entry)) (now (heap .entry)) (now (indices .entry)) (now (decision .entry)) s)
-        r
-        (sessionOf n m lits ends (now (values .exit)) (now (levels .exit)) (now (reasons .entry)) (now (trail .exit)) (now (opened .exit)) (now (activity .entry)) (now (heap .exit)) (now (indices .exit)) (now (decision .entry)) (r .state))) ⌝ }
+    requires { let t = trailOf (now values) (now levels) (now reasons) (now trail) (now opened) (s .trail) in
+        let h = vsidsOf (now activity) (now heap) (now indices) (now decision) (s .vsids) in
+        ⌜ Steady (length (now values)) t h ⌝ }
+    ensures { λ r. ⌜ ((n m : ℕ) (lits ends : List ℕ) →
+        let before = sessionOf n m lits ends
+        (now (values .entry)) (now (levels .entry)) (now (reasons .entry)) (now (trail .entry)) (now (opened .entry))
+        (now (activity .entry)) (now (heap .entry)) (now (indices .entry)) (now (decision .entry)) s in
+        let after = sessionOf n m lits ends
+        (now (values .exit)) (now (levels .exit)) (now (reasons .entry)) (now (trail .exit)) (now (opened .exit))
+        (now (activity .entry)) (now (heap .exit)) (now (indices .exit)) (now (decision .entry)) (r .state) in
+        Answers n m lits ends (book.decide p) before r after) ⌝ }
 {
     if p >= 2 {
         return refuse(BAD_POLARITY, s);
@@ -83,8 +89,10 @@ fn offer_undone(
 ) -> VsidsState
     requires { ⌜ ForValues (length (now activity)) (vsidsOf (now activity) (now heap) (now indices) (now decision) s) ⌝ }
     requires { ⌜ (from ≤ to) × ((to ≤ length (now trail)) × ((i : ℕ) → i < to → lits.index (getD (now trail) i 0) < length (now activity))) ⌝ }
-    ensures { λ r. ⌜ vsidsOf (now (activity .entry)) (now (heap .exit)) (now (indices .exit)) (now (decision .entry)) r
-        ≡ insertAll (between (now (trail .entry)) from to) (vsidsOf (now (activity .entry)) (now (heap .entry)) (now (indices .entry)) (now (decision .entry)) s) ⌝ }
+    ensures { λ r.
+        let before = vsidsOf (now (activity .entry)) (now (heap .entry)) (now (indices .entry)) (now (decision .entry)) s in
+        let after = vsidsOf (now (activity .entry)) (now (heap .exit)) (now (indices .exit)) (now (decision .entry)) r in
+        ⌜ after ≡ insertAll (between (now (trail .entry)) from to) before ⌝ }
 {
     let step = s.step;
     let mut len = s.len;
@@ -118,10 +126,17 @@ fn went_back(
     s: HeapState,
     level: u32,
 ) -> HeapState
-    requires { ⌜ Steady (length (now values)) (trailOf (now values) (now levels) (now reasons) (now trail) (now opened) (s .trail)) (vsidsOf (now activity) (now heap) (now indices) (now decision) (s .vsids)) ⌝ }
+    requires { let t = trailOf (now values) (now levels) (now reasons) (now trail) (now opened) (s .trail) in
+        let h = vsidsOf (now activity) (now heap) (now indices) (now decision) (s .vsids) in
+        ⌜ Steady (length (now values)) t h ⌝ }
     ensures { λ r. ⌜ ((n m : ℕ) (lits ends : List ℕ) →
-        sessionOf n m lits ends (now (values .exit)) (now (levels .entry)) (now (reasons .exit)) (now (trail .exit)) (now (opened .exit)) (now (activity .entry)) (now (heap .exit)) (now (indices .exit)) (now (decision .entry)) r
-        ≡ wentBack n m (heapOps n lits ends) level (sessionOf n m lits ends (now (values .entry)) (now (levels .entry)) (now (reasons .entry)) (now (trail .entry)) (now (opened .entry)) (now (activity .entry)) (now (heap .entry)) (now (indices .entry)) (now (decision .entry)) s)) ⌝ }
+        let before = sessionOf n m lits ends
+        (now (values .entry)) (now (levels .entry)) (now (reasons .entry)) (now (trail .entry)) (now (opened .entry))
+        (now (activity .entry)) (now (heap .entry)) (now (indices .entry)) (now (decision .entry)) s in
+        let after = sessionOf n m lits ends
+        (now (values .exit)) (now (levels .entry)) (now (reasons .exit)) (now (trail .exit)) (now (opened .exit))
+        (now (activity .entry)) (now (heap .exit)) (now (indices .exit)) (now (decision .entry)) r in
+        after ≡ wentBack n m (heapOps n lits ends) level before) ⌝ }
 {
     let t = s.trail;
     let h = s.vsids;
@@ -151,11 +166,17 @@ pub fn go_back(
     s: HeapState,
     level: u32,
 ) -> HeapAnswer
-    requires { ⌜ Steady (length (now values)) (trailOf (now values) (now levels) (now reasons) (now trail) (now opened) (s .trail)) (vsidsOf (now activity) (now heap) (now indices) (now decision) (s .vsids)) ⌝ }
-    ensures { λ r. ⌜ ((n m : ℕ) (lits ends : List ℕ) → Answers n m lits ends (book.goBack level)
-        (sessionOf n m lits ends (now (values .entry)) (now (levels .entry)) (now (reasons .entry)) (now (trail .entry)) (now (opened .entry)) (now (activity .entry)) (now (heap .entry)) (now (indices .entry)) (now (decision .entry)) s)
-        r
-        (sessionOf n m lits ends (now (values .exit)) (now (levels .entry)) (now (reasons .exit)) (now (trail .exit)) (now (opened .exit)) (now (activity .entry)) (now (heap .exit)) (now (indices .exit)) (now (decision .entry)) (r .state))) ⌝ }
+    requires { let t = trailOf (now values) (now levels) (now reasons) (now trail) (now opened) (s .trail) in
+        let h = vsidsOf (now activity) (now heap) (now indices) (now decision) (s .vsids) in
+        ⌜ Steady (length (now values)) t h ⌝ }
+    ensures { λ r. ⌜ ((n m : ℕ) (lits ends : List ℕ) →
+        let before = sessionOf n m lits ends
+        (now (values .entry)) (now (levels .entry)) (now (reasons .entry)) (now (trail .entry)) (now (opened .entry))
+        (now (activity .entry)) (now (heap .entry)) (now (indices .entry)) (now (decision .entry)) s in
+        let after = sessionOf n m lits ends
+        (now (values .exit)) (now (levels .entry)) (now (reasons .exit)) (now (trail .exit)) (now (opened .exit))
+        (now (activity .entry)) (now (heap .exit)) (now (indices .exit)) (now (decision .entry)) (r .state) in
+        Answers n m lits ends (book.goBack level) before r after) ⌝ }
 {
     let t = s.trail;
     let back = went_back(
@@ -190,11 +211,17 @@ pub fn learn_unit(
     s: HeapState,
     code: u32,
 ) -> HeapAnswer
-    requires { ⌜ Steady n (trailOf (now values) (now levels) (now reasons) (now trail) (now opened) (s .trail)) (vsidsOf (now activity) (now heap) (now indices) (now decision) (s .vsids)) ⌝ }
-    ensures { λ r. ⌜ ((m : ℕ) (lits ends : List ℕ) → Answers n m lits ends (book.learnUnit code)
-        (sessionOf n m lits ends (now (values .entry)) (now (levels .entry)) (now (reasons .entry)) (now (trail .entry)) (now (opened .entry)) (now (activity .entry)) (now (heap .entry)) (now (indices .entry)) (now (decision .entry)) s)
-        r
-        (sessionOf n m lits ends (now (values .exit)) (now (levels .exit)) (now (reasons .exit)) (now (trail .exit)) (now (opened .exit)) (now (activity .entry)) (now (heap .exit)) (now (indices .exit)) (now (decision .entry)) (r .state))) ⌝ }
+    requires { let t = trailOf (now values) (now levels) (now reasons) (now trail) (now opened) (s .trail) in
+        let h = vsidsOf (now activity) (now heap) (now indices) (now decision) (s .vsids) in
+        ⌜ Steady n t h ⌝ }
+    ensures { λ r. ⌜ ((m : ℕ) (lits ends : List ℕ) →
+        let before = sessionOf n m lits ends
+        (now (values .entry)) (now (levels .entry)) (now (reasons .entry)) (now (trail .entry)) (now (opened .entry))
+        (now (activity .entry)) (now (heap .entry)) (now (indices .entry)) (now (decision .entry)) s in
+        let after = sessionOf n m lits ends
+        (now (values .exit)) (now (levels .exit)) (now (reasons .exit)) (now (trail .exit)) (now (opened .exit))
+        (now (activity .entry)) (now (heap .exit)) (now (indices .exit)) (now (decision .entry)) (r .state) in
+        Answers n m lits ends (book.learnUnit code) before r after) ⌝ }
 {
     let k = unit_refusal(n, values, levels, code);
     if k != 0 {

@@ -30,10 +30,12 @@ pub fn bump(
     v: u32,
 ) -> HeapAnswer
     requires { ⌜ ForSwitches n (now activity) (now heap) (now indices) (s .vsids) ⌝ }
-    ensures { λ r. ⌜ ((m : ℕ) (lits ends values levels reasons trail opened : List ℕ) (d : List Bool) → Answers n m lits ends (book.bump v)
-        (sessionOf n m lits ends values levels reasons trail opened (now (activity .entry)) (now (heap .entry)) (now (indices .entry)) d s)
-        r
-        (sessionOf n m lits ends values levels reasons trail opened (now (activity .exit)) (now (heap .exit)) (now (indices .exit)) d (r .state))) ⌝ }
+    ensures { λ r. ⌜ ((m : ℕ) (lits ends values levels reasons trail opened : List ℕ) (d : List Bool) →
+        let before = sessionOf n m lits ends values levels reasons trail opened
+        (now (activity .entry)) (now (heap .entry)) (now (indices .entry)) d s in
+        let after = sessionOf n m lits ends values levels reasons trail opened
+        (now (activity .exit)) (now (heap .exit)) (now (indices .exit)) d (r .state) in
+        Answers n m lits ends (book.bump v) before r after) ⌝ }
 {
     if v >= n {
         return refuse(NO_VARIABLE, s);
@@ -46,10 +48,9 @@ pub fn bump(
 
 // Lets the step grow by the decay, unless it would be too large.
 pub fn decay(s: HeapState) -> HeapAnswer
-    ensures { λ r. ⌜ ((n m : ℕ) (lits ends values levels reasons trail opened : List ℕ) (a : List Float) (h p : List ℕ) (d : List Bool) → Answers n m lits ends book.decay
-        (sessionOf n m lits ends values levels reasons trail opened a h p d s)
-        r
-        (sessionOf n m lits ends values levels reasons trail opened a h p d (r .state))) ⌝ }
+    ensures { λ r. ⌜ ((n m : ℕ) (lits ends values levels reasons trail opened : List ℕ) (a : List Float) (h p : List ℕ) (d : List Bool) →
+        let with = sessionOf n m lits ends values levels reasons trail opened a h p d in
+        Answers n m lits ends book.decay (with s) r (with (r .state))) ⌝ }
 {
     let t = s.trail;
     let h = s.vsids;
@@ -63,10 +64,9 @@ pub fn decay(s: HeapState) -> HeapAnswer
 
 // Sets the decay to one from 0.5 to 1.
 pub fn set_decay(s: HeapState, decay: f64) -> HeapAnswer
-    ensures { λ r. ⌜ ((n m : ℕ) (lits ends values levels reasons trail opened : List ℕ) (a : List Float) (h p : List ℕ) (d : List Bool) → Answers n m lits ends (book.setDecay decay)
-        (sessionOf n m lits ends values levels reasons trail opened a h p d s)
-        r
-        (sessionOf n m lits ends values levels reasons trail opened a h p d (r .state))) ⌝ }
+    ensures { λ r. ⌜ ((n m : ℕ) (lits ends values levels reasons trail opened : List ℕ) (a : List Float) (h p : List ℕ) (d : List Bool) →
+        let with = sessionOf n m lits ends values levels reasons trail opened a h p d in
+        Answers n m lits ends (book.setDecay decay) (with s) r (with (r .state))) ⌝ }
 {
     if !activity::good_decay(decay) {
         return refuse(BAD_DECAY, s);
@@ -88,10 +88,12 @@ pub fn insert(
     v: u32,
 ) -> HeapAnswer
     requires { ⌜ ForValues n (vsidsOf (now activity) (now heap) (now indices) (now decision) (s .vsids)) ⌝ }
-    ensures { λ r. ⌜ ((m : ℕ) (lits ends values levels reasons trail opened : List ℕ) → Answers n m lits ends (book.insert v)
-        (sessionOf n m lits ends values levels reasons trail opened (now (activity .entry)) (now (heap .entry)) (now (indices .entry)) (now (decision .entry)) s)
-        r
-        (sessionOf n m lits ends values levels reasons trail opened (now (activity .entry)) (now (heap .exit)) (now (indices .exit)) (now (decision .entry)) (r .state))) ⌝ }
+    ensures { λ r. ⌜ ((m : ℕ) (lits ends values levels reasons trail opened : List ℕ) →
+        let before = sessionOf n m lits ends values levels reasons trail opened
+        (now (activity .entry)) (now (heap .entry)) (now (indices .entry)) (now (decision .entry)) s in
+        let after = sessionOf n m lits ends values levels reasons trail opened
+        (now (activity .entry)) (now (heap .exit)) (now (indices .exit)) (now (decision .entry)) (r .state) in
+        Answers n m lits ends (book.insert v) before r after) ⌝ }
 {
     if v >= n {
         return refuse(NO_VARIABLE, s);
@@ -105,10 +107,9 @@ pub fn insert(
 // Switches a variable off: it is never chosen again.
 pub fn switch_off(n: u32, decision: &mut [bool], s: HeapState, v: u32) -> HeapAnswer
     requires { ⌜ length (now decision) ≡ n ⌝ }
-    ensures { λ r. ⌜ ((m : ℕ) (lits ends values levels reasons trail opened : List ℕ) (a : List Float) (h p : List ℕ) → Answers n m lits ends (book.switchOff v)
-        (sessionOf n m lits ends values levels reasons trail opened a h p (now (decision .entry)) s)
-        r
-        (sessionOf n m lits ends values levels reasons trail opened a h p (now (decision .exit)) (r .state))) ⌝ }
+    ensures { λ r. ⌜ ((m : ℕ) (lits ends values levels reasons trail opened : List ℕ) (a : List Float) (h p : List ℕ) →
+        let with = sessionOf n m lits ends values levels reasons trail opened a h p in
+        Answers n m lits ends (book.switchOff v) (with (now (decision .entry)) s) r (with (now (decision .exit)) (r .state))) ⌝ }
 {
     if v >= n {
         return refuse(NO_VARIABLE, s);
@@ -129,12 +130,15 @@ pub fn bump_reason(
     s: HeapState,
     v: u32,
 ) -> HeapAnswer
-    requires { ⌜ GoodClauses n (now lits) (now ends) × ((length (now reasons) ≡ n) × ((v : ℕ) → v < n → IsReason (length (now ends)) (getD (now reasons) v 0))) ⌝ }
+    requires { ⌜ GoodClauses n (now lits) (now ends)
+        × ((length (now reasons) ≡ n) × ((v : ℕ) → v < n → IsReason (length (now ends)) (getD (now reasons) v 0))) ⌝ }
     requires { ⌜ ForSwitches n (now activity) (now heap) (now indices) (s .vsids) ⌝ }
-    ensures { λ r. ⌜ ((m : ℕ) (values levels trail opened : List ℕ) (d : List Bool) → Answers n m (now (lits .entry)) (now (ends .entry)) (book.bumpReason v)
-        (sessionOf n m (now (lits .entry)) (now (ends .entry)) values levels (now (reasons .entry)) trail opened (now (activity .entry)) (now (heap .entry)) (now (indices .entry)) d s)
-        r
-        (sessionOf n m (now (lits .entry)) (now (ends .entry)) values levels (now (reasons .entry)) trail opened (now (activity .exit)) (now (heap .exit)) (now (indices .exit)) d (r .state))) ⌝ }
+    ensures { λ r. ⌜ ((m : ℕ) (values levels trail opened : List ℕ) (d : List Bool) →
+        let before = sessionOf n m (now (lits .entry)) (now (ends .entry)) values levels (now (reasons .entry)) trail opened
+        (now (activity .entry)) (now (heap .entry)) (now (indices .entry)) d s in
+        let after = sessionOf n m (now (lits .entry)) (now (ends .entry)) values levels (now (reasons .entry)) trail opened
+        (now (activity .exit)) (now (heap .exit)) (now (indices .exit)) d (r .state) in
+        Answers n m (now (lits .entry)) (now (ends .entry)) (book.bumpReason v) before r after) ⌝ }
 {
     if v >= n {
         return refuse(NO_VARIABLE, s);
@@ -152,10 +156,9 @@ pub fn bump_reason(
 
 // A group changes nothing: its variables are tested.
 pub fn group(n: u32, s: HeapState, vars: &[u32]) -> HeapAnswer
-    ensures { λ r. ⌜ ((m : ℕ) (lits ends values levels reasons trail opened : List ℕ) (a : List Float) (h p : List ℕ) (d : List Bool) → Answers n m lits ends (book.group (now (vars .entry)))
-        (sessionOf n m lits ends values levels reasons trail opened a h p d s)
-        r
-        (sessionOf n m lits ends values levels reasons trail opened a h p d (r .state))) ⌝ }
+    ensures { λ r. ⌜ ((m : ℕ) (lits ends values levels reasons trail opened : List ℕ) (a : List Float) (h p : List ℕ) (d : List Bool) →
+        let with = sessionOf n m lits ends values levels reasons trail opened a h p d in
+        Answers n m lits ends (book.group (now (vars .entry))) (with s) r (with (r .state))) ⌝ }
 {
     if !session::vars_below(n, vars) {
         return refuse(NO_VARIABLE, s);

@@ -47,11 +47,17 @@ pub fn step(
     call: Call,
     vars: &[u32],
 ) -> HeapAnswer
-    requires { ⌜ GoodSession n m (now lits) (now ends) (trailOf (now values) (now levels) (now reasons) (now trail) (now opened) (s .trail)) (vsidsOf (now activity) (now heap) (now indices) (now decision) (s .vsids)) ⌝ }
-    ensures { λ r. ⌜ Answers n m (now (lits .entry)) (now (ends .entry)) (callOf call (now (vars .entry)))
-        (sessionOf n m (now (lits .entry)) (now (ends .entry)) (now (values .entry)) (now (levels .entry)) (now (reasons .entry)) (now (trail .entry)) (now (opened .entry)) (now (activity .entry)) (now (heap .entry)) (now (indices .entry)) (now (decision .entry)) s)
-        r
-        (sessionOf n m (now (lits .entry)) (now (ends .entry)) (now (values .exit)) (now (levels .exit)) (now (reasons .exit)) (now (trail .exit)) (now (opened .exit)) (now (activity .exit)) (now (heap .exit)) (now (indices .exit)) (now (decision .exit)) (r .state)) ⌝ }
+    requires { let t = trailOf (now values) (now levels) (now reasons) (now trail) (now opened) (s .trail) in
+        let h = vsidsOf (now activity) (now heap) (now indices) (now decision) (s .vsids) in
+        ⌜ GoodSession n m (now lits) (now ends) t h ⌝ }
+    ensures { λ r.
+        let before = sessionOf n m (now (lits .entry)) (now (ends .entry))
+        (now (values .entry)) (now (levels .entry)) (now (reasons .entry)) (now (trail .entry)) (now (opened .entry))
+        (now (activity .entry)) (now (heap .entry)) (now (indices .entry)) (now (decision .entry)) s in
+        let after = sessionOf n m (now (lits .entry)) (now (ends .entry))
+        (now (values .exit)) (now (levels .exit)) (now (reasons .exit)) (now (trail .exit)) (now (opened .exit))
+        (now (activity .exit)) (now (heap .exit)) (now (indices .exit)) (now (decision .exit)) (r .state) in
+        ⌜ Answers n m (now (lits .entry)) (now (ends .entry)) (callOf call (now (vars .entry))) before r after ⌝ }
 {
     let t = s.trail;
     let h = s.vsids;
@@ -145,7 +151,10 @@ pub fn check_state(
 ) -> bool
     requires { ⌜ Lengths (length (now values)) (now values) (now levels) (now reasons) (now trail) (now opened) ⌝ }
     requires { ⌜ SameLengths (length (now activity)) (now values) (now heap) (now indices) (now decision) ⌝ }
-    ensures { λ r. ⌜ r ≡ stateOk m (trailOf (now (values .entry)) (now (levels .entry)) (now (reasons .entry)) (now (trail .entry)) (now (opened .entry)) (s .trail)) (vsidsOf (now (activity .entry)) (now (heap .entry)) (now (indices .entry)) (now (decision .entry)) (s .vsids)) ⌝ }
+    ensures { λ r.
+        let t = trailOf (now (values .entry)) (now (levels .entry)) (now (reasons .entry)) (now (trail .entry)) (now (opened .entry)) (s .trail) in
+        let h = vsidsOf (now (activity .entry)) (now (heap .entry)) (now (indices .entry)) (now (decision .entry)) (s .vsids) in
+        ⌜ r ≡ stateOk m t h ⌝ }
 {
     let t = s.trail;
     let h = s.vsids;

@@ -8,14 +8,11 @@ use native.Mathlib.Omega.{arith}
 use borrow.Author.Tests.{eqb-true, eq-eqb}
 use lib.ListN.{length}
 use lib.Dec.{eqb}
-use Rattle.laws.specs.Tests.{and-left, and-right, and-both}
+use Rattle.laws.specs.Tests.{and-left, and-right}
 use Rattle.lit.specs.Numbers.{NONE, maxVars}
 use Rattle.trail.specs.Trail.{Trail}
 use Rattle.trail.specs.Memory.{Sized}
-use Rattle.trail_check.specs.Check.{trailOk}
-use Rattle.trail_check.specs.Checked.{trail-right}
-use Rattle.vmtf.specs.Vmtf.{Vmtf, checkList}
-use Rattle.vmtf.specs.Check.{check-good}
+use Rattle.vmtf.specs.Vmtf.{Vmtf}
 use Rattle.choosers.specs.List.{listOps, list-chooser, list-ok, ok-list}
 use Rattle.book.specs.Calls.{Call}
 use Rattle.book.specs.Session.{Session, leaves, call}
@@ -23,8 +20,9 @@ use Rattle.session.specs.Sizes.{both}
 use Rattle.session.specs.Kept as either
 use Rattle.session.specs.Entered.{Sound}
 use Rattle.list_session.specs.Good.{GoodSession}
+use Rattle.list_session.specs.Check.{stateOk, checked-good, good-checked}
 use Rattle.list_session.specs.Kept.{IsGood, fresh-good-session}
-use Rattle.list_entry.specs.Entry.{listLengths, stateOk, listMode}
+use Rattle.list_entry.specs.Entry.{listLengths, listMode}
 
 -- what the test of the list's lengths says
 pub record ListSized (n : ℕ) (l : Vmtf) : Type 0 where
@@ -46,15 +44,9 @@ good-sized {n} {l = l} g = sized-list n l (record { next-long = g .list .1 .link
 
 -- for memory of the right lengths: the check passes exactly the good sessions
 pub state-right : (n m : ℕ) (t : Trail) (l : Vmtf) → n ≤ maxVars → Sized n t → listLengths n l ≡ true → (stateOk m t l ≡ true) ↔ GoodSession n m t l
-unfolding stateOk
-state-right n m t l small sized long = let z = list-sized n l long in (
-  λ e. record {
-    small = small;
-    trail = trail-right n m t sized .0 (and-left (trailOk m t) (checkList l) e);
-    list = check-good n l (omega arith) (z .next-long) (z .prev-long) (z .ts-long) .0 (and-right (trailOk m t) (checkList l) e);
-  },
-  λ g. and-both (trail-right n m t sized .1 (g .trail)) (check-good n l (omega arith) (z .next-long) (z .prev-long) (z .ts-long) .1 (g .list)),
-)
+state-right n m t l small sized long =
+    let z = list-sized n l long in
+    (checked-good m t l small sized (z .next-long) (z .prev-long) (z .ts-long), good-checked t l)
 
 -- every call leaves a good session, refused or not
 pub kept : (n m : ℕ) (lits : List ℕ) (s : Session n m (listOps n lits)) → IsGood n m lits s → (c : Call) → IsGood n m lits (leaves s (call n m (listOps n lits) s c))

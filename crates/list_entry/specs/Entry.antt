@@ -5,23 +5,18 @@ use mathlib.Core.List.{List}
 use lib.ListN.{length}
 use lib.Dec.{eqb}
 use Rattle.lit.specs.Numbers.{NONE}
-use Rattle.trail.specs.Trail.{Trail}
-use Rattle.trail_check.specs.Check.{trailOk}
-use Rattle.vmtf.specs.Vmtf.{Vmtf, checkList}
+use Rattle.vmtf.specs.Vmtf.{Vmtf}
 use Rattle.choosers.specs.List.{listOps}
 use Rattle.book.specs.Session.{Result, Session}
 use Rattle.session.specs.Asked.{Asked}
 use Rattle.session.specs.Mode.{scratchLengths, Mode}
 use Rattle.session.specs.Mode as mode
 use Rattle.list_session.specs.declared.ListState.{ListState}
+use Rattle.list_session.specs.Check.{stateOk}
 
 -- refusal 5, of the list's slices
 abbrev pub listLengths : ℕ → Vmtf → Bool
 listLengths n l = eqb (length (l .next)) n && (eqb (length (l .prev)) n && eqb (length (l .ts)) n)
-
--- refusal 7: 'the state breaks a fact stated above for its records'
-unfoldable pub stateOk : ℕ → Trail → Vmtf → Bool
-stateOk m t l = trailOk m t && checkList l
 
 -- over n variables and m clauses with these literals
 abbrev pub listMode : ℕ → ℕ → List ℕ → Mode

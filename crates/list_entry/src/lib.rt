@@ -1,21 +1,20 @@
 // The entry points in list mode: a session's calls, and its creation. They check the memory that was lent, and ask nothing of their callers.
 ghost use mathlib.Core.Path.{_≡_};
-ghost use Prim.Native.Nat.{_≤_};
-ghost use lib.ListN.{length};
-ghost use Rattle.lit.specs.Numbers as number;
 ghost use Rattle.formula.specs.Clauses.{clausesOk};
-ghost use Rattle.trail.specs.Memory.{trailOf, Lengths};
+ghost use Rattle.trail.specs.Memory.{trailOf};
 ghost use Rattle.vmtf.specs.Vmtf.{vmtfOf};
 ghost use Rattle.session.specs.Asked.{asks};
 ghost use Rattle.session.specs.Checks.{stateRefusal};
 ghost use Rattle.session.specs.Entry.{Answered};
 ghost use Rattle.session.specs.Mode.{lengthsOk};
+ghost use Rattle.list_session.specs.Check.{stateOk};
 ghost use Rattle.list_session.specs.Memory.{sessionOf, cleared};
 ghost use Rattle.list_session.specs.Scratch.{clears};
-ghost use Rattle.list_entry.specs.Entry.{listLengths, stateOk, listMode, entered};
+ghost use Rattle.list_entry.specs.Entry.{listLengths, listMode, entered};
 use list_session::ListAnswer;
 use list_session::ListState;
 use list_session::refuse;
+use list_session::step::check_state;
 use list_session::step::step;
 use lit::BAD_STATE;
 use session::Call;
@@ -25,7 +24,9 @@ pub mod creation;
 
 // Whether the list's slices have length n.
 fn list_lengths(n: usize, next: &[u32], prev: &[u32], ts: &[u64]) -> bool
-    ensures { λ r. ⌜ ((s : VmtfState) → r ≡ listLengths n (vmtfOf (now (next .entry)) (now (prev .entry)) (now (ts .entry)) s)) ⌝ }
+    ensures { λ r. ⌜ ((s : VmtfState) →
+        let l = vmtfOf (now (next .entry)) (now (prev .entry)) (now (ts .entry)) s in
+        r ≡ listLengths n l) ⌝ }
 {
     next.len() == n && (prev.len() == n && ts.len() == n)
 }
@@ -47,9 +48,12 @@ pub fn lengths_ok(
     ts: &[u64],
     scratch: bool,
 ) -> bool
-    ensures { λ r. ⌜ ((s : ListState) → r ≡ lengthsOk n clauses (listMode n clauses (now (lits .entry))) (now (lits .entry)) literals (now (ends .entry))
-        (sessionOf n clauses (now (lits .entry)) (now (values .entry)) (now (levels .entry)) (now (reasons .entry)) (now (trail .entry)) (now (opened .entry)) (now (next .entry)) (now (prev .entry)) (now (ts .entry)) s)
-        scratch) ⌝ }
+    ensures { λ r. ⌜ ((s : ListState) →
+        let lent = sessionOf n clauses (now (lits .entry))
+        (now (values .entry)) (now (levels .entry)) (now (reasons .entry)) (now (trail .entry)) (now (opened .entry))
+        (now (next .entry)) (now (prev .entry)) (now (ts .entry)) s in
+        let mode = listMode n clauses (now (lits .entry)) in
+        r ≡ lengthsOk n clauses mode (now (lits .entry)) literals (now (ends .entry)) lent scratch) ⌝ }
 {
     if !session::entry::trail_lengths(n as usize, values, levels, reasons, trail, opened) {
         return false;
@@ -61,31 +65,6 @@ pub fn lengths_ok(
         return false;
     }
     scratch
-}
-
-// Whether the trail and the list are good.
-pub fn check_state(
-    m: u32,
-    values: &[u8],
-    levels: &[u32],
-    reasons: &[u32],
-    trail: &[u32],
-    opened: &[u32],
-    next: &[u32],
-    prev: &[u32],
-    ts: &[u64],
-    s: ListState,
-) -> bool
-    requires { ⌜ Lengths (length (now values)) (now values) (now levels) (now reasons) (now trail) (now opened) × (length (now values) ≤ number.maxVars) ⌝ }
-    requires { ⌜ (length (now prev) ≡ length (now next)) × (length (now ts) ≡ length (now next)) ⌝ }
-    ensures { λ r. ⌜ r ≡ stateOk m (trailOf (now (values .entry)) (now (levels .entry)) (now (reasons .entry)) (now (trail .entry)) (now (opened .entry)) (s .trail)) (vmtfOf (now (next .entry)) (now (prev .entry)) (now (ts .entry)) (s .vmtf)) ⌝ }
-{
-    let t = s.trail;
-    let l = s.vmtf;
-    if !trail_check::check_trail(m, values, levels, reasons, trail, opened, t) {
-        return false;
-    }
-    vmtf::check_list(next, prev, ts, l)
 }
 
 // The refusal of a session that was lent, or 0.
@@ -106,12 +85,13 @@ fn refusal(
     s: ListState,
     scratch: bool,
 ) -> u32
-    ensures { λ r. ⌜ r ≡ stateRefusal n
-        (lengthsOk n clauses (listMode n clauses (now (lits .entry))) (now (lits .entry)) literals (now (ends .entry))
-        (sessionOf n clauses (now (lits .entry)) (now (values .entry)) (now (levels .entry)) (now (reasons .entry)) (now (trail .entry)) (now (opened .entry)) (now (next .entry)) (now (prev .entry)) (now (ts .entry)) s)
-        scratch)
-        (clausesOk n (now (lits .entry)) (now (ends .entry)))
-        (stateOk clauses (trailOf (now (values .entry)) (now (levels .entry)) (now (reasons .entry)) (now (trail .entry)) (now (opened .entry)) (s .trail)) (vmtfOf (now (next .entry)) (now (prev .entry)) (now (ts .entry)) (s .vmtf))) ⌝ }
+    ensures { λ r.
+        let lent = sessionOf n clauses (now (lits .entry))
+        (now (values .entry)) (now (levels .entry)) (now (reasons .entry)) (now (trail .entry)) (now (opened .entry))
+        (now (next .entry)) (now (prev .entry)) (now (ts .entry)) s in
+        let mode = listMode n clauses (now (lits .entry)) in
+        let lengths = lengthsOk n clauses mode (now (lits .entry)) literals (now (ends .entry)) lent scratch in
+        ⌜ r ≡ stateRefusal n lengths (clausesOk n (now (lits .entry)) (now (ends .entry))) (stateOk clauses (lent .trail) (lent .chooser)) ⌝ }
 {
     let lengths = lengths_ok(
         n,
@@ -171,14 +151,18 @@ pub fn enter(
     stamps: &mut [u64],
     order: &mut [u32],
 ) -> ListAnswer
-    ensures { λ r. ⌜ Answered
-        (entered n clauses (now (lits .entry)) literals (now (ends .entry)) (asks call (now (vars .entry)) (now (stamps .entry)) (now (order .entry)))
-        (sessionOf n clauses (now (lits .entry)) (now (values .entry)) (now (levels .entry)) (now (reasons .entry)) (now (trail .entry)) (now (opened .entry)) (now (next .entry)) (now (prev .entry)) (now (ts .entry)) s))
-        (sessionOf n clauses (now (lits .entry)) (now (values .entry)) (now (levels .entry)) (now (reasons .entry)) (now (trail .entry)) (now (opened .entry)) (now (next .entry)) (now (prev .entry)) (now (ts .entry)) s)
-        (r .status)
-        (r .reply)
-        (sessionOf n clauses (now (lits .entry)) (now (values .exit)) (now (levels .exit)) (now (reasons .exit)) (now (trail .exit)) (now (opened .exit)) (now (next .exit)) (now (prev .exit)) (now (ts .exit)) (r .state)) ⌝ }
-    ensures { λ r. ⌜ (now (stamps .exit) ≡ cleared (clears call (r .status)) (now (stamps .entry))) × (now (order .exit) ≡ cleared (clears call (r .status)) (now (order .entry))) ⌝ }
+    ensures { λ r.
+        let before = sessionOf n clauses (now (lits .entry))
+        (now (values .entry)) (now (levels .entry)) (now (reasons .entry)) (now (trail .entry)) (now (opened .entry))
+        (now (next .entry)) (now (prev .entry)) (now (ts .entry)) s in
+        let after = sessionOf n clauses (now (lits .entry))
+        (now (values .exit)) (now (levels .exit)) (now (reasons .exit)) (now (trail .exit)) (now (opened .exit))
+        (now (next .exit)) (now (prev .exit)) (now (ts .exit)) (r .state) in
+        let asked = asks call (now (vars .entry)) (now (stamps .entry)) (now (order .entry)) in
+        ⌜ Answered (entered n clauses (now (lits .entry)) literals (now (ends .entry)) asked before) before (r .status) (r .reply) after ⌝ }
+    ensures { λ r.
+        let used = clears call (r .status) in
+        ⌜ (now (stamps .exit) ≡ cleared used (now (stamps .entry))) × (now (order .exit) ≡ cleared used (now (order .entry))) ⌝ }
 {
     let scratch = session::entry::scratch_ok(call, vars.len(), stamps.len(), order.len());
     let k = refusal(

@@ -79,11 +79,16 @@ pub fn decide(
     s: ListState,
     p: u32,
 ) -> ListAnswer
-    requires { ⌜ Choosable (length (now values)) (trailOf (now values) (now levels) (now reasons) (now trail) (now opened) (s .trail)) (now next) (s .vmtf) ⌝ }
-    ensures { λ r. ⌜ ((n m : ℕ) (lits prev ts : List ℕ) → Answers n m lits (book.decide p)
-        (sessionOf n m lits (now (values .entry)) (now (levels .entry)) (now (reasons .entry)) (now (trail .entry)) (now (opened .entry)) (now (next .entry)) prev ts s)
-        r
-        (sessionOf n m lits (now (values .exit)) (now (levels .exit)) (now (reasons .entry)) (now (trail .exit)) (now (opened .exit)) (now (next .entry)) prev ts (r .state))) ⌝ }
+    requires { let t = trailOf (now values) (now levels) (now reasons) (now trail) (now opened) (s .trail) in
+        ⌜ Choosable (length (now values)) t (now next) (s .vmtf) ⌝ }
+    ensures { λ r. ⌜ ((n m : ℕ) (lits prev ts : List ℕ) →
+        let before = sessionOf n m lits
+        (now (values .entry)) (now (levels .entry)) (now (reasons .entry)) (now (trail .entry)) (now (opened .entry))
+        (now (next .entry)) prev ts s in
+        let after = sessionOf n m lits
+        (now (values .exit)) (now (levels .exit)) (now (reasons .entry)) (now (trail .exit)) (now (opened .exit))
+        (now (next .entry)) prev ts (r .state) in
+        Answers n m lits (book.decide p) before r after) ⌝ }
 {
     if p >= 2 {
         return refuse(BAD_POLARITY, s);
@@ -119,11 +124,14 @@ pub fn group(
 ) -> ListAnswer
     requires { ⌜ InOrder n (vmtfOf (now next) (now prev) (now ts) (s .vmtf)) ⌝ }
     requires { ⌜ (length (now stamps) ≡ length (now vars)) × (length (now order) ≡ length (now vars)) ⌝ }
-    ensures { λ r. ⌜ ((m : ℕ) (lits values levels reasons trail opened : List ℕ) → Answers n m lits (book.group (now (vars .entry)))
-        (sessionOf n m lits values levels reasons trail opened (now (next .entry)) (now (prev .entry)) (now (ts .entry)) s)
-        r
-        (sessionOf n m lits values levels reasons trail opened (now (next .exit)) (now (prev .exit)) (now (ts .exit)) (r .state))) ⌝ }
-    ensures { λ r. ⌜ (now (stamps .exit) ≡ cleared (eqb (r .status) 0) (now (stamps .entry))) × (now (order .exit) ≡ cleared (eqb (r .status) 0) (now (order .entry))) ⌝ }
+    ensures { λ r. ⌜ ((m : ℕ) (lits values levels reasons trail opened : List ℕ) →
+        let with = sessionOf n m lits values levels reasons trail opened in
+        let before = with (now (next .entry)) (now (prev .entry)) (now (ts .entry)) s in
+        let after = with (now (next .exit)) (now (prev .exit)) (now (ts .exit)) (r .state) in
+        Answers n m lits (book.group (now (vars .entry))) before r after) ⌝ }
+    ensures { λ r.
+        let used = eqb (r .status) 0 in
+        ⌜ (now (stamps .exit) ≡ cleared used (now (stamps .entry))) × (now (order .exit) ≡ cleared used (now (order .entry))) ⌝ }
 {
     if !session::vars_below(n, vars) {
         return refuse(NO_VARIABLE, s);

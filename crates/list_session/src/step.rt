@@ -1,14 +1,17 @@
 // A session in list mode: the trail and the move-to-front list over lent slices, and the eleven calls on it.
 ghost use mathlib.Core.Path.{_≡_};
 ghost use mathlib.Core.List.{List};
-ghost use Prim.Native.Nat.{ℕ};
-ghost use Rattle.trail.specs.Memory.{trailOf};
+ghost use Prim.Native.Nat.{ℕ, _≤_};
+ghost use lib.ListN.{length};
+ghost use Rattle.lit.specs.Numbers as number;
+ghost use Rattle.trail.specs.Memory.{trailOf, Lengths};
 ghost use Rattle.vmtf.specs.Vmtf.{vmtfOf};
 ghost use Rattle.session.specs.Calls.{callOf};
 ghost use Rattle.session.specs.Asked.{asks};
 ghost use Rattle.session.specs.Entered.{RightScratch};
 ghost use Rattle.list_session.specs.Memory.{sessionOf, Answers, cleared};
 ghost use Rattle.list_session.specs.Good.{GoodSession};
+ghost use Rattle.list_session.specs.Check.{stateOk};
 ghost use Rattle.list_session.specs.Scratch.{clears};
 use crate::ListAnswer;
 use crate::ListState;
@@ -42,13 +45,21 @@ pub fn step(
     stamps: &mut [u64],
     order: &mut [u32],
 ) -> ListAnswer
-    requires { ⌜ GoodSession n m (trailOf (now values) (now levels) (now reasons) (now trail) (now opened) (s .trail)) (vmtfOf (now next) (now prev) (now ts) (s .vmtf)) ⌝ }
+    requires { let t = trailOf (now values) (now levels) (now reasons) (now trail) (now opened) (s .trail) in
+        let l = vmtfOf (now next) (now prev) (now ts) (s .vmtf) in
+        ⌜ GoodSession n m t l ⌝ }
     requires { ⌜ RightScratch (asks call (now vars) (now stamps) (now order)) ⌝ }
-    ensures { λ r. ⌜ ((lits : List ℕ) → Answers n m lits (callOf call (now (vars .entry)))
-        (sessionOf n m lits (now (values .entry)) (now (levels .entry)) (now (reasons .entry)) (now (trail .entry)) (now (opened .entry)) (now (next .entry)) (now (prev .entry)) (now (ts .entry)) s)
-        r
-        (sessionOf n m lits (now (values .exit)) (now (levels .exit)) (now (reasons .exit)) (now (trail .exit)) (now (opened .exit)) (now (next .exit)) (now (prev .exit)) (now (ts .exit)) (r .state))) ⌝ }
-    ensures { λ r. ⌜ (now (stamps .exit) ≡ cleared (clears call (r .status)) (now (stamps .entry))) × (now (order .exit) ≡ cleared (clears call (r .status)) (now (order .entry))) ⌝ }
+    ensures { λ r. ⌜ ((lits : List ℕ) →
+        let before = sessionOf n m lits
+        (now (values .entry)) (now (levels .entry)) (now (reasons .entry)) (now (trail .entry)) (now (opened .entry))
+        (now (next .entry)) (now (prev .entry)) (now (ts .entry)) s in
+        let after = sessionOf n m lits
+        (now (values .exit)) (now (levels .exit)) (now (reasons .exit)) (now (trail .exit)) (now (opened .exit))
+        (now (next .exit)) (now (prev .exit)) (now (ts .exit)) (r .state) in
+        Answers n m lits (callOf call (now (vars .entry))) before r after) ⌝ }
+    ensures { λ r.
+        let used = clears call (r .status) in
+        ⌜ (now (stamps .exit) ≡ cleared used (now (stamps .entry))) × (now (order .exit) ≡ cleared used (now (order .entry))) ⌝ }
 {
     let t = s.trail;
     let l = s.vmtf;
@@ -85,4 +96,33 @@ pub fn step(
         Call::BumpReason(v) => tested(v < n, NO_VARIABLE, s),
         Call::Group => group(n, next, prev, ts, s, vars, stamps, order),
     }
+}
+
+// Whether the trail and the list are good.
+pub fn check_state(
+    m: u32,
+    values: &[u8],
+    levels: &[u32],
+    reasons: &[u32],
+    trail: &[u32],
+    opened: &[u32],
+    next: &[u32],
+    prev: &[u32],
+    ts: &[u64],
+    s: ListState,
+) -> bool
+    requires { ⌜ Lengths (length (now values)) (now values) (now levels) (now reasons) (now trail) (now opened)
+        × (length (now values) ≤ number.maxVars) ⌝ }
+    requires { ⌜ (length (now prev) ≡ length (now next)) × (length (now ts) ≡ length (now next)) ⌝ }
+    ensures { λ r.
+        let t = trailOf (now (values .entry)) (now (levels .entry)) (now (reasons .entry)) (now (trail .entry)) (now (opened .entry)) (s .trail) in
+        let l = vmtfOf (now (next .entry)) (now (prev .entry)) (now (ts .entry)) (s .vmtf) in
+        ⌜ r ≡ stateOk m t l ⌝ }
+{
+    let t = s.trail;
+    let l = s.vmtf;
+    if !trail_check::check_trail(m, values, levels, reasons, trail, opened, t) {
+        return false;
+    }
+    vmtf::check_list(next, prev, ts, l)
 }

@@ -12,7 +12,7 @@ use Rattle.vmtf.specs.Vmtf.{Vmtf, Literals, new}
 use Rattle.book.specs.Session.{fresh}
 use Rattle.list_session.specs.Good.{GoodSession}
 use Rattle.list_session.specs.Kept.{fresh-good-session}
-use Rattle.list_entry.specs.Entry.{stateOk}
+use Rattle.list_session.specs.Check.{stateOk}
 use Rattle.list_entry.specs.Checked.{good-sized, state-right}
 use Rattle.forms.specs.Forms.{vmtf}
 use Rattle.sheet.specs.declared.Place.{Place}

@@ -54,7 +54,7 @@ fn start(
     let l = move_to_front::creation::new(lits, next, prev, ts, levels, reasons);
     let t = trail::new_trail(values, levels, reasons, trail, opened);
     let s = ListState { trail: t, vmtf: l };
-    let good = list_entry::check_state(
+    let good = list_session::step::check_state(
         m,
         values,
         levels,

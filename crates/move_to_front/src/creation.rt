@@ -2,6 +2,8 @@
 mod order;
 
 ghost use mathlib.Core.Path.{_≡_};
+ghost use mathlib.Core.List.{List};
+ghost use Prim.Native.Nat.{ℕ};
 ghost use lib.ListN.{length, getD, replicate};
 ghost use Rattle.lit.specs.Numbers.{NONE as none};
 ghost use Rattle.vmtf.specs.Vmtf as spec;
@@ -26,8 +28,10 @@ fn var_at(order: &[u32], i: usize) -> u32
 fn link(order: &[u32], next: &mut [u32], prev: &mut [u32], ts: &mut [u64])
     requires { ⌜ Ordering (length (now next)) (now order) ⌝ }
     requires { ⌜ (length (now prev) ≡ length (now next)) × (length (now ts) ≡ length (now next)) ⌝ }
-    ensures { λ _. ⌜ ((s : VmtfState) → vmtfOf (now (next .exit)) (now (prev .exit)) (now (ts .exit)) s
-        ≡ spec.linkFrom none (now (order .entry)) (vmtfOf (now (next .entry)) (now (prev .entry)) (now (ts .entry)) s)) ⌝ }
+    ensures { λ _. ⌜ ((s : VmtfState) →
+        let before = vmtfOf (now (next .entry)) (now (prev .entry)) (now (ts .entry)) s in
+        let after = vmtfOf (now (next .exit)) (now (prev .exit)) (now (ts .exit)) s in
+        after ≡ spec.linkFrom none (now (order .entry)) before) ⌝ }
 {
     let mut before = NONE;
     let mut i = 0;
@@ -45,7 +49,9 @@ fn link(order: &[u32], next: &mut [u32], prev: &mut [u32], ts: &mut [u64])
 fn make_linked_list(order: &[u32], next: &mut [u32], prev: &mut [u32], ts: &mut [u64]) -> VmtfState
     requires { ⌜ Ordering (length (now next)) (now order) ⌝ }
     requires { ⌜ (length (now prev) ≡ length (now next)) × (length (now ts) ≡ length (now next)) ⌝ }
-    ensures { λ r. ⌜ vmtfOf (now (next .exit)) (now (prev .exit)) (now (ts .exit)) r ≡ spec.makeLinkedList (now (order .entry)) ⌝ }
+    ensures { λ r.
+        let made = vmtfOf (now (next .exit)) (now (prev .exit)) (now (ts .exit)) r in
+        ⌜ made ≡ spec.makeLinkedList (now (order .entry)) ⌝ }
 {
     fill(next, NONE);
     fill(prev, NONE);
@@ -70,8 +76,12 @@ pub fn new(
 ) -> VmtfState
     requires { ⌜ Literals (length (now next)) (now codes) ⌝ }
     requires { ⌜ Fresh (length (now next)) (now prev) (now ts) (now counts) (now indexes) ⌝ }
-    ensures { λ r. ⌜ vmtfOf (now (next .exit)) (now (prev .exit)) (now (ts .exit)) r ≡ spec.new (length (now (next .entry))) (now (codes .entry)) ⌝ }
-    ensures { λ _. ⌜ (now (counts .exit) ≡ replicate (length (now (next .entry))) 0) × (now (indexes .exit) ≡ replicate (length (now (next .entry))) 0) ⌝ }
+    ensures { λ r.
+        let made = vmtfOf (now (next .exit)) (now (prev .exit)) (now (ts .exit)) r in
+        ⌜ made ≡ spec.new (length (now (next .entry))) (now (codes .entry)) ⌝ }
+    ensures { λ _.
+        let zeros : List ℕ = replicate (length (now (next .entry))) 0 in
+        ⌜ (now (counts .exit) ≡ zeros) × (now (indexes .exit) ≡ zeros) ⌝ }
 {
     lit_order(codes, counts, indexes);
     let s = make_linked_list(indexes, next, prev, ts);

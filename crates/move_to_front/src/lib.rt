@@ -39,7 +39,10 @@ fn renumber(next: &[u32], ts: &mut [u64], start: u32)
 // Stamps the whole list anew, so that stamps are small again. It leaves the links before a variable, whatever they are.
 fn rescore(next: &[u32], ts: &mut [u64], s: VmtfState) -> VmtfState
     requires { ⌜ Links (length (now ts)) (now next) (s .start) ⌝ }
-    ensures { λ r. ⌜ ((prev : List ℕ) → vmtfOf (now (next .entry)) prev (now (ts .exit)) r ≡ spec.rescore (vmtfOf (now (next .entry)) prev (now (ts .entry)) s)) ⌝ }
+    ensures { λ r. ⌜ ((prev : List ℕ) →
+        let before = vmtfOf (now (next .entry)) prev (now (ts .entry)) s in
+        let after = vmtfOf (now (next .entry)) prev (now (ts .exit)) r in
+        after ≡ spec.rescore before) ⌝ }
 {
     renumber(next, ts, s.start);
     let mut scored = s;
@@ -51,8 +54,10 @@ fn rescore(next: &[u32], ts: &mut [u64], s: VmtfState) -> VmtfState
 fn relink(next: &mut [u32], prev: &mut [u32], ts: &mut [u64], s: VmtfState, v: u32) -> VmtfState
     requires { ⌜ Safe (length (now next)) (vmtfOf (now next) (now prev) (now ts) s) ⌝ }
     requires { ⌜ (v < length (now next)) × (v ≢ s .start) ⌝ }
-    ensures { λ r. ⌜ vmtfOf (now (next .exit)) (now (prev .exit)) (now (ts .exit)) r
-        ≡ spec.relink v (vmtfOf (now (next .entry)) (now (prev .entry)) (now (ts .entry)) s) ⌝ }
+    ensures { λ r.
+        let before = vmtfOf (now (next .entry)) (now (prev .entry)) (now (ts .entry)) s in
+        let after = vmtfOf (now (next .exit)) (now (prev .exit)) (now (ts .exit)) r in
+        ⌜ after ≡ spec.relink v before ⌝ }
 {
     let start = s.start;
     let before = prev[v as usize];
@@ -73,7 +78,10 @@ fn relink(next: &mut [u32], prev: &mut [u32], ts: &mut [u64], s: VmtfState, v: u
 // The next timestamp; after the largest stamp the list is stamped anew.
 fn tick(next: &[u32], ts: &mut [u64], s: VmtfState) -> VmtfState
     requires { ⌜ Links (length (now ts)) (now next) (s .start) ⌝ }
-    ensures { λ r. ⌜ ((prev : List ℕ) → vmtfOf (now (next .entry)) prev (now (ts .exit)) r ≡ spec.tick (vmtfOf (now (next .entry)) prev (now (ts .entry)) s)) ⌝ }
+    ensures { λ r. ⌜ ((prev : List ℕ) →
+        let before = vmtfOf (now (next .entry)) prev (now (ts .entry)) s in
+        let after = vmtfOf (now (next .entry)) prev (now (ts .exit)) r in
+        after ≡ spec.tick before) ⌝ }
 {
     if s.timestamp == MAX_STAMP {
         return rescore(next, ts, s);
@@ -93,8 +101,10 @@ fn move_to_front(
 ) -> VmtfState
     requires { ⌜ Safe (length (now next)) (vmtfOf (now next) (now prev) (now ts) s) ⌝ }
     requires { ⌜ tomove < length (now next) ⌝ }
-    ensures { λ r. ⌜ vmtfOf (now (next .exit)) (now (prev .exit)) (now (ts .exit)) r
-        ≡ spec.moveToFront tomove (vmtfOf (now (next .entry)) (now (prev .entry)) (now (ts .entry)) s) ⌝ }
+    ensures { λ r.
+        let before = vmtfOf (now (next .entry)) (now (prev .entry)) (now (ts .entry)) s in
+        let after = vmtfOf (now (next .exit)) (now (prev .exit)) (now (ts .exit)) r in
+        ⌜ after ≡ spec.moveToFront tomove before ⌝ }
 {
     if tomove == s.start {
         return s;
@@ -113,8 +123,10 @@ fn move_all(
 ) -> VmtfState
     requires { ⌜ Safe (length (now next)) (vmtfOf (now next) (now prev) (now ts) s) ⌝ }
     requires { ⌜ Vars (length (now next)) (now vars) ⌝ }
-    ensures { λ r. ⌜ vmtfOf (now (next .exit)) (now (prev .exit)) (now (ts .exit)) r
-        ≡ spec.moveAll (now (vars .entry)) (vmtfOf (now (next .entry)) (now (prev .entry)) (now (ts .entry)) s) ⌝ }
+    ensures { λ r.
+        let before = vmtfOf (now (next .entry)) (now (prev .entry)) (now (ts .entry)) s in
+        let after = vmtfOf (now (next .exit)) (now (prev .exit)) (now (ts .exit)) r in
+        ⌜ after ≡ spec.moveAll (now (vars .entry)) before ⌝ }
 {
     let mut state = s;
     let mut k = 0;
@@ -137,9 +149,13 @@ pub fn bump_vec_of_vars(
 ) -> VmtfState
     requires { ⌜ Safe (length (now next)) (vmtfOf (now next) (now prev) (now ts) s) ⌝ }
     requires { ⌜ Group (now vars) (now ts) (now stamps) (now order) ⌝ }
-    ensures { λ r. ⌜ vmtfOf (now (next .exit)) (now (prev .exit)) (now (ts .exit)) r
-        ≡ spec.bumpVecOfVars (now (vars .entry)) (vmtfOf (now (next .entry)) (now (prev .entry)) (now (ts .entry)) s) ⌝ }
-    ensures { λ _. ⌜ (now (stamps .exit) ≡ replicate (length (now (vars .entry))) 0) × (now (order .exit) ≡ replicate (length (now (vars .entry))) 0) ⌝ }
+    ensures { λ r.
+        let before = vmtfOf (now (next .entry)) (now (prev .entry)) (now (ts .entry)) s in
+        let after = vmtfOf (now (next .exit)) (now (prev .exit)) (now (ts .exit)) r in
+        ⌜ after ≡ spec.bumpVecOfVars (now (vars .entry)) before ⌝ }
+    ensures { λ _.
+        let zeros : List ℕ = replicate (length (now (vars .entry))) 0 in
+        ⌜ (now (stamps .exit) ≡ zeros) × (now (order .exit) ≡ zeros) ⌝ }
 {
     group_order(ts, vars, stamps, order);
     let r = move_all(next, prev, ts, s, order);

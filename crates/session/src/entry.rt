@@ -20,7 +20,9 @@ pub fn trail_lengths(
     trail: &[u32],
     opened: &[u32],
 ) -> bool
-    ensures { λ r. ⌜ ((s : TrailState) → r ≡ trailLengths n (trailOf (now (values .entry)) (now (levels .entry)) (now (reasons .entry)) (now (trail .entry)) (now (opened .entry)) s)) ⌝ }
+    ensures { λ r. ⌜ ((s : TrailState) →
+        let t = trailOf (now (values .entry)) (now (levels .entry)) (now (reasons .entry)) (now (trail .entry)) (now (opened .entry)) s in
+        r ≡ trailLengths n t) ⌝ }
 {
     values.len() == n
         && (levels.len() == n && (reasons.len() == n && (trail.len() == n && opened.len() == n)))

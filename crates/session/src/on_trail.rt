@@ -52,8 +52,9 @@ fn refuse(status: u32, s: TrailState) -> TrailAnswer
 // The refusal of an enqueue, or 0.
 fn enqueue_refusal(n: u32, m: u32, values: &[u8], code: u32, reason: u32) -> u32
     requires { ⌜ length (now values) ≡ n ⌝ }
-    ensures { λ r. ⌜ ((levels reasons trail opened : List ℕ) (s : counts.TrailState) → r
-        ≡ session.status (enqueueOn n m code reason (trailOf (now (values .entry)) levels reasons trail opened s))) ⌝ }
+    ensures { λ r. ⌜ ((levels reasons trail opened : List ℕ) (s : counts.TrailState) →
+        let t = trailOf (now (values .entry)) levels reasons trail opened s in
+        r ≡ session.status (enqueueOn n m code reason t)) ⌝ }
 {
     if lit::index(code) >= n {
         return NO_VARIABLE;
@@ -80,13 +81,12 @@ pub fn enqueue(
     code: u32,
     reason: u32,
 ) -> TrailAnswer
-    requires { ⌜ (n ≤ number.maxVars) × GoodTrail n m (trailOf (now values) (now levels) (now reasons) (now trail) (now opened) s) ⌝ }
-    ensures { λ r. ⌜ Answered
-        (enqueueOn n m code reason (trailOf (now (values .entry)) (now (levels .entry)) (now (reasons .entry)) (now (trail .entry)) (now (opened .entry)) s))
-        (trailOf (now (values .entry)) (now (levels .entry)) (now (reasons .entry)) (now (trail .entry)) (now (opened .entry)) s)
-        (r .status)
-        (r .reply)
-        (trailOf (now (values .exit)) (now (levels .exit)) (now (reasons .exit)) (now (trail .exit)) (now (opened .entry)) (r .state)) ⌝ }
+    requires { let t = trailOf (now values) (now levels) (now reasons) (now trail) (now opened) s in
+        ⌜ (n ≤ number.maxVars) × GoodTrail n m t ⌝ }
+    ensures { λ r.
+        let before = trailOf (now (values .entry)) (now (levels .entry)) (now (reasons .entry)) (now (trail .entry)) (now (opened .entry)) s in
+        let after = trailOf (now (values .exit)) (now (levels .exit)) (now (reasons .exit)) (now (trail .exit)) (now (opened .entry)) (r .state) in
+        ⌜ Answered (enqueueOn n m code reason before) before (r .status) (r .reply) after ⌝ }
 {
     let k = enqueue_refusal(n, m, values, code, reason);
     if k != 0 {
@@ -99,7 +99,9 @@ pub fn enqueue(
 // Whether the literal's variable is assigned at level 0, and so stays assigned when the trail goes back there.
 fn at_level_zero(values: &[u8], levels: &[u32], code: u32) -> bool
     requires { ⌜ (lits.index code < length (now values)) × (lits.index code < length (now levels)) ⌝ }
-    ensures { λ r. ⌜ r ≡ (lits.isAssigned (now (values .entry)) (lits.index code) && eqb (getD (now (levels .entry)) (lits.index code) 0) 0) ⌝ }
+    ensures { λ r.
+        let v = lits.index code in
+        ⌜ r ≡ (lits.isAssigned (now (values .entry)) v && eqb (getD (now (levels .entry)) v 0) 0) ⌝ }
 {
     let v = lit::index(code) as usize;
     lit::lit_set(code, values) && levels[v] == 0
@@ -108,8 +110,9 @@ fn at_level_zero(values: &[u8], levels: &[u32], code: u32) -> bool
 // The refusal of a learn-unit, or 0.
 pub fn unit_refusal(n: u32, values: &[u8], levels: &[u32], code: u32) -> u32
     requires { ⌜ (length (now values) ≡ n) × (length (now levels) ≡ n) ⌝ }
-    ensures { λ r. ⌜ ((m : ℕ) (reasons trail opened : List ℕ) (s : counts.TrailState) → GoodTrail n m (trailOf (now (values .entry)) (now (levels .entry)) reasons trail opened s)
-        → r ≡ session.status (learnUnitOn n code (trailOf (now (values .entry)) (now (levels .entry)) reasons trail opened s))) ⌝ }
+    ensures { λ r. ⌜ ((m : ℕ) (reasons trail opened : List ℕ) (s : counts.TrailState) →
+        let t = trailOf (now (values .entry)) (now (levels .entry)) reasons trail opened s in
+        GoodTrail n m t → r ≡ session.status (learnUnitOn n code t)) ⌝ }
 {
     if lit::index(code) >= n {
         return NO_VARIABLE;
@@ -131,13 +134,12 @@ pub fn learn_unit(
     s: TrailState,
     code: u32,
 ) -> TrailAnswer
-    requires { ⌜ (n ≤ number.maxVars) × ((m : ℕ) × GoodTrail n m (trailOf (now values) (now levels) (now reasons) (now trail) (now opened) s)) ⌝ }
-    ensures { λ r. ⌜ Answered
-        (learnUnitOn n code (trailOf (now (values .entry)) (now (levels .entry)) (now (reasons .entry)) (now (trail .entry)) (now (opened .entry)) s))
-        (trailOf (now (values .entry)) (now (levels .entry)) (now (reasons .entry)) (now (trail .entry)) (now (opened .entry)) s)
-        (r .status)
-        (r .reply)
-        (trailOf (now (values .exit)) (now (levels .exit)) (now (reasons .exit)) (now (trail .exit)) (now (opened .exit)) (r .state)) ⌝ }
+    requires { let t = trailOf (now values) (now levels) (now reasons) (now trail) (now opened) s in
+        ⌜ (n ≤ number.maxVars) × ((m : ℕ) × GoodTrail n m t) ⌝ }
+    ensures { λ r.
+        let before = trailOf (now (values .entry)) (now (levels .entry)) (now (reasons .entry)) (now (trail .entry)) (now (opened .entry)) s in
+        let after = trailOf (now (values .exit)) (now (levels .exit)) (now (reasons .exit)) (now (trail .exit)) (now (opened .exit)) (r .state) in
+        ⌜ Answered (learnUnitOn n code before) before (r .status) (r .reply) after ⌝ }
 {
     let k = unit_refusal(n, values, levels, code);
     if k != 0 {
@@ -157,13 +159,12 @@ pub fn go_back(
     s: TrailState,
     level: u32,
 ) -> TrailAnswer
-    requires { ⌜ (length (now values) ≤ number.maxVars) × ((m : ℕ) × GoodTrail (length (now values)) m (trailOf (now values) (now levels) (now reasons) (now trail) (now opened) s)) ⌝ }
-    ensures { λ r. ⌜ Answered
-        (goBackOn level (trailOf (now (values .entry)) (now (levels .entry)) (now (reasons .entry)) (now (trail .entry)) (now (opened .entry)) s))
-        (trailOf (now (values .entry)) (now (levels .entry)) (now (reasons .entry)) (now (trail .entry)) (now (opened .entry)) s)
-        (r .status)
-        (r .reply)
-        (trailOf (now (values .exit)) (now (levels .entry)) (now (reasons .exit)) (now (trail .exit)) (now (opened .exit)) (r .state)) ⌝ }
+    requires { let t = trailOf (now values) (now levels) (now reasons) (now trail) (now opened) s in
+        ⌜ (length (now values) ≤ number.maxVars) × ((m : ℕ) × GoodTrail (length (now values)) m t) ⌝ }
+    ensures { λ r.
+        let before = trailOf (now (values .entry)) (now (levels .entry)) (now (reasons .entry)) (now (trail .entry)) (now (opened .entry)) s in
+        let after = trailOf (now (values .exit)) (now (levels .entry)) (now (reasons .exit)) (now (trail .exit)) (now (opened .exit)) (r .state) in
+        ⌜ Answered (goBackOn level before) before (r .status) (r .reply) after ⌝ }
 {
     let t = trail::back::backtrack_safe(values, levels, reasons, trail, opened, s, level);
     accept(s.len - t.len, t)

@@ -89,7 +89,10 @@ fn covered_ok(values: &[u8], marks: &[bool]) -> bool
 fn check_marked(values: &[u8], trail: &[u32], len: u32, marks: &mut [bool]) -> bool
     requires { ⌜ len ≤ length (now trail) ⌝ }
     requires { ⌜ Marked (now trail) 0 (length (now values)) (now marks) ⌝ }
-    ensures { λ r. ⌜ r ≡ (spec.placesOk (now (values .entry)) (now (trail .entry)) len && spec.heldOk (now (values .entry)) (now (trail .entry)) len) ⌝ }
+    ensures { λ r.
+        let held = now (values .entry) in
+        let codes = now (trail .entry) in
+        ⌜ r ≡ (spec.placesOk held codes len && spec.heldOk held codes len) ⌝ }
 {
     if !places_ok(values, trail, len, marks) {
         return false;
@@ -103,7 +106,10 @@ const FEW: usize = 64;
 // The same, with marks set up for it.
 fn check_places(values: &[u8], trail: &[u32], len: u32) -> bool
     requires { ⌜ (length (now values) ≤ number.maxVars) × (len ≤ length (now trail)) ⌝ }
-    ensures { λ r. ⌜ r ≡ (spec.placesOk (now (values .entry)) (now (trail .entry)) len && spec.heldOk (now (values .entry)) (now (trail .entry)) len) ⌝ }
+    ensures { λ r.
+        let held = now (values .entry) in
+        let codes = now (trail .entry) in
+        ⌜ r ≡ (spec.placesOk held codes len && spec.heldOk held codes len) ⌝ }
 {
     if values.len() <= FEW {
         let mut few = [false; FEW];
@@ -136,7 +142,9 @@ fn levels_ok(levels: &[u32], trail: &[u32], opened: &[u32], level: u32, len: u32
 // Whether every variable has a good value and a good reason. Where no variable has a reason, every reason is good.
 fn check_variables(m: u32, values: &[u8], reasons: &[u32]) -> bool
     requires { ⌜ length (now reasons) ≡ length (now values) ⌝ }
-    ensures { λ r. ⌜ r ≡ (spec.valuesOk (now (values .entry)) && spec.reasonsOk m (now (values .entry)) (now (reasons .entry))) ⌝ }
+    ensures { λ r.
+        let held = now (values .entry) in
+        ⌜ r ≡ (spec.valuesOk held && spec.reasonsOk m held (now (reasons .entry))) ⌝ }
 {
     if !values_ok(values) {
         return false;
@@ -162,7 +170,9 @@ fn check_unused(trail: &[u32], len: u32, opened: &[u32], level: u32) -> bool
 fn check_levels(levels: &[u32], trail: &[u32], opened: &[u32], level: u32, len: u32) -> bool
     requires { ⌜ (len ≤ length (now trail)) × (level ≤ length (now opened)) ⌝ }
     requires { ⌜ ((i : ℕ) → i < len → lits.index (getD (now trail) i 0) < length (now levels)) ⌝ }
-    ensures { λ r. ⌜ r ≡ (spec.openedOk (now (opened .entry)) level len && spec.levelsOk (now (levels .entry)) (now (trail .entry)) (now (opened .entry)) level len) ⌝ }
+    ensures { λ r.
+        let places = now (opened .entry) in
+        ⌜ r ≡ (spec.openedOk places level len && spec.levelsOk (now (levels .entry)) (now (trail .entry)) places level len) ⌝ }
 {
     if !opened_ok(opened, level, len) {
         return false;
@@ -182,7 +192,9 @@ pub fn check_trail(
 ) -> bool
     requires { ⌜ Lengths (length (now values)) (now values) (now levels) (now reasons) (now trail) (now opened) ⌝ }
     requires { ⌜ length (now values) ≤ number.maxVars ⌝ }
-    ensures { λ r. ⌜ r ≡ spec.trailOk m (trailOf (now (values .entry)) (now (levels .entry)) (now (reasons .entry)) (now (trail .entry)) (now (opened .entry)) s) ⌝ }
+    ensures { λ r.
+        let t = trailOf (now (values .entry)) (now (levels .entry)) (now (reasons .entry)) (now (trail .entry)) (now (opened .entry)) s in
+        ⌜ r ≡ spec.trailOk m t ⌝ }
 {
     let len = s.len;
     let level = s.level;

@@ -109,7 +109,9 @@ pub fn get_next(next: &[u32], values: &[u8], s: VmtfState) -> Next
 // Whether curr may come next in the list: a variable with the link back to the one before it and a lower stamp.
 fn stands(next: &[u32], prev: &[u32], ts: &[u64], before: u32, stamp: u64, curr: u32) -> bool
     requires { ⌜ (length (now prev) ≡ length (now next)) × (length (now ts) ≡ length (now next)) ⌝ }
-    ensures { λ r. ⌜ ((s : VmtfState) → r ≡ spec.stands (vmtfOf (now (next .entry)) (now (prev .entry)) (now (ts .entry)) s) before stamp curr) ⌝ }
+    ensures { λ r. ⌜ ((s : VmtfState) →
+        let l = vmtfOf (now (next .entry)) (now (prev .entry)) (now (ts .entry)) s in
+        r ≡ spec.stands l before stamp curr) ⌝ }
 {
     if curr as usize >= next.len() {
         return false;
@@ -123,7 +125,9 @@ fn stands(next: &[u32], prev: &[u32], ts: &[u64], before: u32, stamp: u64, curr:
 // Whether all variables stand in the list from the front on, with links that agree and stamps that fall below the timestamp.
 fn check_row(next: &[u32], prev: &[u32], ts: &[u64], s: VmtfState) -> bool
     requires { ⌜ (length (now prev) ≡ length (now next)) × (length (now ts) ≡ length (now next)) ⌝ }
-    ensures { λ r. ⌜ r ≡ spec.checkRow (vmtfOf (now (next .entry)) (now (prev .entry)) (now (ts .entry)) s) (length (now (next .entry))) none (s .timestamp) (s .start) ⌝ }
+    ensures { λ r.
+        let l = vmtfOf (now (next .entry)) (now (prev .entry)) (now (ts .entry)) s in
+        ⌜ r ≡ spec.checkRow l (length (now (next .entry))) none (s .timestamp) (s .start) ⌝ }
 {
     let mut before = NONE;
     let mut stamp = s.timestamp;
@@ -144,7 +148,9 @@ fn check_row(next: &[u32], prev: &[u32], ts: &[u64], s: VmtfState) -> bool
 // Whether a lent list is good: all variables stand in it, and search is a variable or NONE.
 pub fn check_list(next: &[u32], prev: &[u32], ts: &[u64], s: VmtfState) -> bool
     requires { ⌜ (length (now prev) ≡ length (now next)) × (length (now ts) ≡ length (now next)) ⌝ }
-    ensures { λ r. ⌜ r ≡ spec.checkList (vmtfOf (now (next .entry)) (now (prev .entry)) (now (ts .entry)) s) ⌝ }
+    ensures { λ r.
+        let l = vmtfOf (now (next .entry)) (now (prev .entry)) (now (ts .entry)) s in
+        ⌜ r ≡ spec.checkList l ⌝ }
 {
     if !check_row(next, prev, ts, s) {
         return false;

@@ -1,9 +1,9 @@
--- `list_entry::check_state` meets its contract: one check after the other.
+-- `step::check_state` meets its contract: one check after the other.
 use mathlib.Core.Path.{sym, _∙_}
 use borrow.Author.Tests.{not-true, not-false}
-use Rattle.list_entry.specs.Entry.{stateOk}
-use Rattle.list_entry.proofs.check_state.Statement.{statement}
-use Rattle.list_entry.proofs.check_state.Tie as tie
+use Rattle.list_session.specs.Check.{stateOk}
+use Rattle.list_session.proofs.step.check_state.Statement.{statement}
+use Rattle.list_session.proofs.step.check_state.Tie as tie
 
 check-trail-requires : tie.Need-check-trail-requires
 check-trail-requires c κs = c .before .before .before .before .before .before .before .before .before .before .pre .0
