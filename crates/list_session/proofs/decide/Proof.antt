@@ -1,4 +1,4 @@
--- `list_calls::decide` meets its contract: by what `get_next` found; the variable that it picks has room on the trail.
+-- `list_session::decide` meets its contract: by what `get_next` found; the variable that it picks has room on the trail.
 use mathlib.Core.Path.{refl, sym, ap, subst, _∙_}
 use borrow.Author.Tests.{le-ltb}
 use Rattle.trail.specs.Laws.{not-assigned}

@@ -1,4 +1,4 @@
--- `list_calls::group` meets its contract: a good list is safe to move in and gives each of its variables a stamp of its own.
+-- `list_session::group` meets its contract: a good list is safe to move in and gives each of its variables a stamp of its own.
 use mathlib.Core.Path.{refl, sym, ap, _∙_}
 use native.Mathlib.Omega.{arith}
 use borrow.Author.Tests.{not-true, not-false}

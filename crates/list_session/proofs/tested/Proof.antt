@@ -1,4 +1,4 @@
--- `list_calls::tested` meets its contract: by its test.
+-- `list_session::tested` meets its contract: by its test.
 use borrow.Author.Needs.{needs}
 use Rattle.list_session.proofs.tested.Statement.{statement}
 use Rattle.list_session.proofs.tested.Tie as tie

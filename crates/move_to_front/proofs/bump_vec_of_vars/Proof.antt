@@ -1,4 +1,4 @@
--- `vmtf_moves::bump_vec_of_vars` meets its contract: the sorted group holds variables, and its moves are `moveAll`.
+-- `move_to_front::bump_vec_of_vars` meets its contract: the sorted group holds variables, and its moves are `moveAll`.
 use Prim.Native.Nat.{ℕ}
 use mathlib.Core.Path.{ap, _∙_}
 use mathlib.Core.List.{List}

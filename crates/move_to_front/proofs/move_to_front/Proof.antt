@@ -1,4 +1,4 @@
--- `vmtf_moves::move_to_front` meets its contract: relinking keeps what safety needs of the links, so the stamps may be renumbered behind it.
+-- `move_to_front::move_to_front` meets its contract: relinking keeps what safety needs of the links, so the stamps may be renumbered behind it.
 use mathlib.Core.Path.{sym, ap, _∙_}
 use lib.ListN.{length}
 use borrow.Author.Tests.{eq-eqb, ne-eqb}

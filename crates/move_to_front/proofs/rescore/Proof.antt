@@ -1,4 +1,4 @@
--- `vmtf_moves::rescore` meets its contract: it is `renumber` from the front.
+-- `move_to_front::rescore` meets its contract: it is `renumber` from the front.
 use Rattle.vmtf.specs.Vmtf.{rescore}
 use borrow.Author.Needs.{needs}
 use Rattle.move_to_front.proofs.rescore.Statement.{statement}

@@ -1,4 +1,4 @@
--- `vmtf_moves::tick` meets its contract: after the largest stamp the list is what `rescore` leaves, else only the timestamp moves.
+-- `move_to_front::tick` meets its contract: after the largest stamp the list is what `rescore` leaves, else only the timestamp moves.
 use borrow.Author.Tests.{eq-eqb, ne-eqb}
 use Rattle.vmtf.specs.Vmtf.{tick}
 use borrow.Author.Needs.{needs}

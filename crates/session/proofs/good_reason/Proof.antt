@@ -1,4 +1,4 @@
--- `calls::good_reason` meets its contract, by its first test.
+-- `session::good_reason` meets its contract, by its first test.
 use borrow.Author.Tests.{eq-eqb, ne-eqb}
 use Rattle.session.proofs.good_reason.Statement.{statement}
 use Rattle.session.proofs.good_reason.Tie as tie

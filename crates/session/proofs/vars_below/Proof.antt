@@ -1,4 +1,4 @@
--- `calls::vars_below` meets its contract: what is left of the group still decides.
+-- `session::vars_below` meets its contract: what is left of the group still decides.
 use Prim.Native.Nat.{_≤_, _<_, _+_, _-_}
 use mathlib.Core.Path.{_≡_, refl, _∙_}
 use mathlib.Core.List.{_∷_}

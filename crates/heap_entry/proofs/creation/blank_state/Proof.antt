@@ -1,4 +1,4 @@
--- `heap_fresh::blank_state` meets its contract: its step is the fresh one.
+-- `heap_entry::creation::blank_state` meets its contract: its step is the fresh one.
 use borrow.Author.Needs.{needs}
 use Rattle.heap_entry.proofs.creation.blank_state.Statement.{statement}
 use Rattle.heap_entry.proofs.creation.blank_state.Tie as tie

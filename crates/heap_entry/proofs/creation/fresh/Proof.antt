@@ -1,4 +1,4 @@
--- `heap_fresh::fresh` meets its contract: a refusal is the answer; without one the slices have the lengths that creation needs.
+-- `heap_entry::creation::fresh` meets its contract: a refusal is the answer; without one the slices have the lengths that creation needs.
 use mathlib.Core.Path.{refl, sym, ap, _∙_}
 use borrow.Author.Needs.{needs}
 use Rattle.trail.specs.Trail.{freshTrail}

@@ -1,4 +1,4 @@
--- `heap_search::decide` meets its contract: by what `get_next` found; the variable that it picks has room on the trail.
+-- `heap_session::on_trail::decide` meets its contract: by what `get_next` found; the variable that it picks has room on the trail.
 use mathlib.Core.Path.{refl, sym, ap}
 use Rattle.vsids.specs.Kept.{good-room}
 use Rattle.vsids.specs.Choice.{chose-right}

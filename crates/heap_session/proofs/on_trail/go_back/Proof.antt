@@ -1,4 +1,4 @@
--- `heap_search::go_back` meets its contract: going back puts nothing on the trail.
+-- `heap_session::on_trail::go_back` meets its contract: going back puts nothing on the trail.
 use mathlib.Core.Path.{ap}
 use mathlib.Core.List.{[]}
 use native.Mathlib.Omega.{arith}

@@ -1,4 +1,4 @@
--- `heap_search::learn_unit` meets its contract: a variable that is not refused has room once level 0 is reached.
+-- `heap_session::on_trail::learn_unit` meets its contract: a variable that is not refused has room once level 0 is reached.
 use mathlib.Core.Path.{refl, sym, _∙_}
 use mathlib.Core.List.{[]}
 use Rattle.session.specs.OnTrail.{unit-room, unit-refused, unit-learnt}

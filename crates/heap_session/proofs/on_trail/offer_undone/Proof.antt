@@ -1,4 +1,4 @@
--- `heap_search::offer_undone` meets its contract. The loop's invariant: offering the variables that are left gives the goal.
+-- `heap_session::on_trail::offer_undone` meets its contract. The loop's invariant: offering the variables that are left gives the goal.
 use Prim.Native.Nat.{ℕ, _-_}
 use mathlib.Core.Path.{refl, sym, ap, _∙_}
 use native.Mathlib.Omega.{arith}

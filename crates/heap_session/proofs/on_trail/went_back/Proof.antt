@@ -1,4 +1,4 @@
--- `heap_search::went_back` meets its contract: what is undone is offered to the heap, then taken off the trail.
+-- `heap_session::on_trail::went_back` meets its contract: what is undone is offered to the heap, then taken off the trail.
 use borrow.Author.Needs.{needs}
 use Rattle.trail.specs.Laws.{levelled}
 use Rattle.heap_session.specs.Memory.{sessionOf}

@@ -1,4 +1,4 @@
--- `heap_calls::order::bump` meets its contract: a good heap is safe to move in.
+-- `heap_session::order::bump` meets its contract: a good heap is safe to move in.
 use Rattle.vsids.specs.Kept.{good-room, good-placed}
 use borrow.Author.Tests.{lt-ltb, le-ltb}
 use Rattle.book.specs.Session.{call, tuned}

@@ -1,4 +1,4 @@
--- `heap_calls::order::bump_reason` meets its contract: a reason that is not NONE is a clause, and its literals are of variables.
+-- `heap_session::order::bump_reason` meets its contract: a reason that is not NONE is a clause, and its literals are of variables.
 use Rattle.formula.specs.Reading.{clause-at, clause-below}
 use Rattle.vsids.specs.Kept.{good-room, good-placed}
 use Rattle.heap_session.proofs.Needed.{is-clause}

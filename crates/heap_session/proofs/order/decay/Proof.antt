@@ -1,4 +1,4 @@
--- `heap_calls::order::decay` meets its contract: by its test.
+-- `heap_session::order::decay` meets its contract: by its test.
 use mathlib.Core.Path.{sym, _∙_}
 use Rattle.heap_session.proofs.Outcomes.{step-large, decayed}
 use borrow.Author.Needs.{needs}

@@ -1,4 +1,4 @@
--- `heap_calls::order::group` meets its contract: by its test.
+-- `heap_session::order::group` meets its contract: by its test.
 use mathlib.Core.Path.{refl, sym, _∙_}
 use borrow.Author.Tests.{not-true, not-false}
 use Rattle.book.specs.Session.{call, tuned}

@@ -1,4 +1,4 @@
--- `heap_calls::order::insert` meets its contract: a good heap has room for a variable that is no member.
+-- `heap_session::order::insert` meets its contract: a good heap has room for a variable that is no member.
 use Rattle.vsids.specs.Kept.{good-room, good-free}
 use borrow.Author.Tests.{lt-ltb, le-ltb}
 use Rattle.book.specs.Session.{call}

@@ -1,4 +1,4 @@
--- `heap_calls::order::set_decay` meets its contract: by its test.
+-- `heap_session::order::set_decay` meets its contract: by its test.
 use mathlib.Core.Path.{sym, _∙_}
 use borrow.Author.Tests.{not-true, not-false}
 use Rattle.book.specs.Session.{call, tuned}

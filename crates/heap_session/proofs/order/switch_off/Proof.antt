@@ -1,4 +1,4 @@
--- `heap_calls::order::switch_off` meets its contract: by its test.
+-- `heap_session::order::switch_off` meets its contract: by its test.
 use borrow.Author.Tests.{lt-ltb, le-ltb}
 use Rattle.book.specs.Session.{call}
 use Rattle.session.specs.Outcomes.{failed, passed, rechosen}

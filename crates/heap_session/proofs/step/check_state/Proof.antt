@@ -1,4 +1,4 @@
--- `heap_mode::check_state` meets its contract: by its first test.
+-- `heap_session::step::check_state` meets its contract: by its first test.
 use mathlib.Core.Path.{sym, _∙_}
 use native.Mathlib.Omega.{arith}
 use borrow.Author.Tests.{not-true, not-false}

@@ -1,4 +1,4 @@
--- `heap_mode::step` meets its contract: each arm by the contract of its call.
+-- `heap_session::step::step` meets its contract: each arm by the contract of its call.
 use mathlib.Core.Path.{refl}
 use Rattle.session.specs.OnTrail.{enqueue-with}
 use Rattle.heap_session.specs.Good.{steady}

@@ -1,4 +1,4 @@
--- `list_fresh::fresh` meets its contract: a refusal is the answer; without one the slices have the lengths that creation needs.
+-- `list_entry::creation::fresh` meets its contract: a refusal is the answer; without one the slices have the lengths that creation needs.
 use mathlib.Core.Path.{refl, sym, ap, _∙_}
 use native.Mathlib.Omega.{arith}
 use borrow.Author.Needs.{needs}

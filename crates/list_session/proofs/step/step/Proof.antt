@@ -1,4 +1,4 @@
--- `list_mode::step` meets its contract: each arm by the contract of its call.
+-- `list_session::step::step` meets its contract: each arm by the contract of its call.
 use mathlib.Core.Path.{refl}
 use Rattle.book.specs.Session.{call, tuned}
 use Rattle.session.specs.Outcomes.{tested, finished}

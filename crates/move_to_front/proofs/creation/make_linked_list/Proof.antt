@@ -1,4 +1,4 @@
--- `vmtf_new::make_linked_list` meets its contract: the slices are filled as `Default` fills nodes, then linked.
+-- `move_to_front::creation::make_linked_list` meets its contract: the slices are filled as `Default` fills nodes, then linked.
 use mathlib.Core.Path.{sym, ap, _∙_}
 use lib.ListN.{length, replicate}
 use Rattle.lit.specs.Numbers.{NONE}

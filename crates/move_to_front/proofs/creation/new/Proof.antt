@@ -1,4 +1,4 @@
--- `vmtf_new::new` meets its contract: the order has as many variables as the slices have places, and is linked in them.
+-- `move_to_front::creation::new` meets its contract: the order has as many variables as the slices have places, and is linked in them.
 use Prim.Native.Nat.{ℕ}
 use mathlib.Core.Path.{_≡_, sym, ap, _∙_}
 use mathlib.Core.List.{List}

@@ -1,4 +1,4 @@
--- `vmtf_new::var_at` meets its contract: behind the last place of a list its default is read.
+-- `move_to_front::creation::var_at` meets its contract: behind the last place of a list its default is read.
 use Rattle.lit.specs.Numbers.{NONE}
 use mathlib.Core.Path.{sym}
 use lib.ListN.{List·getD-eq-default}

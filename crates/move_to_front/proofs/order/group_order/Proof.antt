@@ -1,4 +1,4 @@
--- `vmtf_moves::order::group_order` meets its contract: the group's variables sorted by their stamps are `byStamp`.
+-- `move_to_front::order::group_order` meets its contract: the group's variables sorted by their stamps are `byStamp`.
 use Rattle.vmtf.specs.Sort.{sorted-is}
 use borrow.Author.Needs.{needs}
 use Rattle.move_to_front.proofs.order.group_order.Statement.{statement}

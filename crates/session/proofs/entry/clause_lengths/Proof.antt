@@ -1,4 +1,4 @@
--- `entry::clause_lengths` meets its contract: by its tests.
+-- `session::entry::clause_lengths` meets its contract: by its tests.
 use borrow.Author.Tests.{eq-eqb, ne-eqb}
 use Rattle.session.proofs.entry.clause_lengths.Statement.{statement}
 use Rattle.session.proofs.entry.clause_lengths.Tie as tie

@@ -1,4 +1,4 @@
--- `entry::scratch_lengths` meets its contract: by its first test.
+-- `session::entry::scratch_lengths` meets its contract: by its first test.
 use borrow.Author.Tests.{eq-eqb, ne-eqb}
 use Rattle.session.proofs.entry.scratch_lengths.Statement.{statement}
 use Rattle.session.proofs.entry.scratch_lengths.Tie as tie

@@ -1,4 +1,4 @@
--- `entry::size_refusal` meets its contract: by the tests in document 01's order.
+-- `session::entry::size_refusal` meets its contract: by the tests in document 01's order.
 use mathlib.Core.Path.{sym, _∙_}
 use borrow.Author.Needs.{needs}
 use borrow.Author.Tests.{lt-leb, le-leb, not-true, not-false}

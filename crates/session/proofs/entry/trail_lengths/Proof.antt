@@ -1,4 +1,4 @@
--- `entry::trail_lengths` meets its contract: by its tests.
+-- `session::entry::trail_lengths` meets its contract: by its tests.
 use borrow.Author.Tests.{eq-eqb, ne-eqb}
 use Rattle.session.proofs.entry.trail_lengths.Statement.{statement}
 use Rattle.session.proofs.entry.trail_lengths.Tie as tie

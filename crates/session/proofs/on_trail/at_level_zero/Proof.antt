@@ -1,4 +1,4 @@
--- `calls::on_trail::at_level_zero` meets its contract: by its first test.
+-- `session::on_trail::at_level_zero` meets its contract: by its first test.
 use mathlib.Core.Path.{sym, _∙_}
 use borrow.Author.Needs.{needs}
 use Rattle.session.proofs.on_trail.at_level_zero.Statement.{statement}

@@ -1,4 +1,4 @@
--- `calls::on_trail::enqueue` meets its contract: a variable that is not refused has room on the trail.
+-- `session::on_trail::enqueue` meets its contract: a variable that is not refused has room on the trail.
 use mathlib.Core.Path.{sym, _∙_}
 use borrow.Author.Needs.{needs}
 use Rattle.session.specs.Outcomes.{refused}

@@ -1,4 +1,4 @@
--- `calls::on_trail::enqueue_refusal` meets its contract: one test after the other.
+-- `session::on_trail::enqueue_refusal` meets its contract: one test after the other.
 use Prim.Native.Nat.{_<_}
 use mathlib.Core.Path.{sym, _∙_}
 use native.Mathlib.Omega.{arith}

@@ -1,4 +1,4 @@
--- `calls::on_trail::go_back` meets its contract: going back puts nothing on the trail.
+-- `session::on_trail::go_back` meets its contract: going back puts nothing on the trail.
 use Prim.Native.Nat.{_-_}
 use mathlib.Core.Path.{refl, ap}
 use native.Mathlib.Omega.{arith}

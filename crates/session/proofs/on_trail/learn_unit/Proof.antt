@@ -1,4 +1,4 @@
--- `calls::on_trail::learn_unit` meets its contract: a variable that is not refused has room once level 0 is reached.
+-- `session::on_trail::learn_unit` meets its contract: a variable that is not refused has room once level 0 is reached.
 use mathlib.Core.Path.{sym, _∙_}
 use borrow.Author.Needs.{needs}
 use Rattle.trail.specs.Laws.{levelled}

@@ -1,4 +1,4 @@
--- `calls::on_trail::unit_refusal` meets its contract: the variables assigned at level 0 are those that stay assigned when the trail goes back.
+-- `session::on_trail::unit_refusal` meets its contract: the variables assigned at level 0 are those that stay assigned when the trail goes back.
 use Prim.Native.Nat.{_<_}
 use mathlib.Core.Path.{sym, _∙_}
 use native.Mathlib.Omega.{arith}

@@ -1,4 +1,4 @@
--- `trail_tests::counts_ok` meets its contract, by its tests.
+-- `trail_check::facts::counts_ok` meets its contract, by its tests.
 use Rattle.trail_check.specs.Check.{countsOk}
 use borrow.Author.Tests.{le-leb, lt-leb}
 use borrow.Author.Needs.{needs}

@@ -1,4 +1,4 @@
--- `trail_tests::covered` meets its contract: of a marked variable every value passes.
+-- `trail_check::facts::covered` meets its contract: of a marked variable every value passes.
 use mathlib.Core.Logic.{⊎-elim}
 use borrow.Author.Needs.{needs}
 use Rattle.trail_check.proofs.facts.Least.{any-value, unassigned-value}

@@ -1,4 +1,4 @@
--- `trail_tests::level_at` meets its contract, by its tests.
+-- `trail_check::facts::level_at` meets its contract, by its tests.
 use borrow.Author.Needs.{needs}
 use borrow.Author.Tests.{lt-ltb, le-ltb, eq-eqb, ne-eqb}
 use Rattle.trail_check.proofs.facts.level_at.Statement.{statement}

@@ -1,4 +1,4 @@
--- `trail_tests::literal_ok` meets its contract, by its tests.
+-- `trail_check::facts::literal_ok` meets its contract, by its tests.
 use mathlib.Core.Path.{sym, _∙_}
 use borrow.Author.Needs.{needs}
 use borrow.Author.Tests.{lt-ltb, le-ltb}

@@ -1,4 +1,4 @@
--- `trail_tests::unused_ok` meets its contract: what is known of the places passed so far is that they pass the test, or not.
+-- `trail_check::facts::unused_ok` meets its contract: what is known of the places passed so far is that they pass the test, or not.
 use Prim.Native.Nat.{_≤_, _-_}
 use mathlib.Core.Path.{_≡_, sym}
 use mathlib.Core.Logic.{⊎-elim}

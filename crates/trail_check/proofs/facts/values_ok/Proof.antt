@@ -1,4 +1,4 @@
--- `trail_tests::values_ok` meets its contract: what is known of the variables passed so far is that they pass the test, or not.
+-- `trail_check::facts::values_ok` meets its contract: what is known of the variables passed so far is that they pass the test, or not.
 use Prim.Native.Nat.{_≤_, _-_}
 use mathlib.Core.Path.{_≡_, refl}
 use mathlib.Core.Logic.{⊎-elim}

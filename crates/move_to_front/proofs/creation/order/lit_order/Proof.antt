@@ -1,4 +1,4 @@
--- `vmtf_new::order::lit_order` meets its contract: counts and numbers, sorted side by side, are `litOrder`.
+-- `move_to_front::creation::order::lit_order` meets its contract: counts and numbers, sorted side by side, are `litOrder`.
 use Prim.Native.Nat.{ℕ}
 use mathlib.Core.Path.{sym, ap, _∙_}
 use mathlib.Core.List.{List}

@@ -1,4 +1,4 @@
--- `vmtf_new::order::number` meets its contract. The loop's invariant: the first i places hold their own numbers, the others what they held.
+-- `move_to_front::creation::order::number` meets its contract. The loop's invariant: the first i places hold their own numbers, the others what they held.
 use Rattle.laws.specs.InPlace.{upTo}
 use Prim.Native.Nat.{_≤_, _<_, _-_}
 use mathlib.Core.Path.{_≡_, refl, _∙_}
