@@ -1,4 +1,4 @@
--- `step::check_state` meets its contract: one check after the other.
+-- `list_session::step::check_state` meets its contract: one check after the other.
 use mathlib.Core.Path.{sym, _∙_}
 use borrow.Author.Tests.{not-true, not-false}
 use Rattle.list_session.specs.Check.{stateOk}

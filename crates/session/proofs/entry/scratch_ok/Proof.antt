@@ -1,4 +1,4 @@
--- `entry::scratch_ok` meets its contract: by the call.
+-- `session::entry::scratch_ok` meets its contract: by the call.
 use mathlib.Core.List.{[], _∷_}
 use types.Run.{miss}
 use borrow.Author.Needs.{needs}
