@@ -19,7 +19,7 @@ use types.Run.{Walks, Finds, look, init, stop, hop, fld, from, load, addr, and-t
 use denote.Slice.{sliceTy, sliceVal}
 
 module _ {M : Type 1} {𝓤 : URA M} {H : Heap 𝓤} {A : Atoms 𝓤} {K : Type 0} {W : Given 𝓤 H A} {E : Env 𝓤 H} where
-  at-local : K → {Γ : List (Item 𝓤)} {i : ℕ} {st : List PStep} {here sp : Spot 𝓤 H} → spotOf 𝓤 H E i ≡ here → Walks K W Γ E here st sp → Finds K W Γ E (place i st) sp
+  pub at-local : K → {Γ : List (Item 𝓤)} {i : ℕ} {st : List PStep} {here sp : Spot 𝓤 H} → spotOf 𝓤 H E i ≡ here → Walks K W Γ E here st sp → Finds K W Γ E (place i st) sp
   at-local t {Γ} {i} {st} {here} {sp} e w = from t (subst (λ (z : Spot 𝓤 H). Walks K W Γ E z st sp) (sym e) w)
 
   module _ {C : Calls 𝓤 H} {Λ : Loops 𝓤 H} {q : Post 𝓤 H} {rest : Body} {Γ : List (Item 𝓤)} where
