@@ -186,8 +186,8 @@ module _ {M : Type 1} (𝓤 : URA M) (H : Heap 𝓤) (A : Atoms 𝓤) (W : Given
         move ! (6 ∷ 19 ∷ []) $ leaves ! tt u32 prev (P i) (long (λ (d : Node). d .prev) prev i) $
         move ! (8 ∷ 20 ∷ []) $ leaves ! tt u64 ts (Z i) (long (λ (d : Node). d .ts) ts i) $
         returns ! (look ! 19 refl) $
-        move ! (20 ∷ 19 ∷ 12 ∷ 9 ∷ 13 ∷ 14 ∷ 6 ∷ 15 ∷ 7 ∷ 8 ∷ 16 ∷ 17 ∷ 18 ∷ []) $
-        frees-all ! (full _ _ _ ∷ full _ _ _ ∷ full _ _ _ ∷ full _ _ _ ∷ full _ _ _ ∷ full _ _ _ ∷ empty _ _ ∷ full _ _ _ ∷ full _ _ _ ∷ empty _ _ ∷ empty _ _ ∷ empty _ _ ∷ []) (
+        move ! (19 ∷ 12 ∷ 9 ∷ 13 ∷ 14 ∷ 6 ∷ 15 ∷ 7 ∷ 8 ∷ 16 ∷ 17 ∷ 18 ∷ 20 ∷ []) $
+        frees-all ! [] (full _ _ _ ∷ full _ _ _ ∷ full _ _ _ ∷ full _ _ _ ∷ full _ _ _ ∷ full _ _ _ ∷ empty _ _ ∷ full _ _ _ ∷ full _ _ _ ∷ empty _ _ ∷ empty _ _ ∷ empty _ _ ∷ []) _ (
         keep ! (7 ∷ 5 ∷ 3 ∷ 1 ∷ 4 ∷ 2 ∷ 0 ∷ []) $
         by ! (exits i same))))
 

@@ -89,8 +89,7 @@ module _ {M : Type 1} (𝓤 : URA M) (H : Heap 𝓤) (A : Atoms 𝓤) (W : Given
       assigns ! (of-opd ! (load ! (from ! (stop !)) (look ! 11 refl))) (from ! (stop !)) (init ! 6 refl (LL.lawful T.the-type T′.the-laws 𝓤 H A W .typed node _ g .0)) $
       elem-back ! R q′ ns i noNode (vals node) b o small $ shuts-slice ! tt R q′ ns b o $
       returns ! (look ! 3 refl) $
-      move ! (9 ∷ 3 ∷ 4 ∷ 5 ∷ 6 ∷ 7 ∷ 8 ∷ []) $
-      frees-all ! (full _ _ _ ∷ full _ _ _ ∷ full _ _ _ ∷ full _ _ _ ∷ full _ _ _ ∷ full _ _ _ ∷ []) (keep ! (0 ∷ []) $ by ! (exits g)))))
+      frees-all ! (_ ∷ _ ∷ _ ∷ []) (full _ _ _ ∷ full _ _ _ ∷ full _ _ _ ∷ full _ _ _ ∷ full _ _ _ ∷ full _ _ _ ∷ []) [] (keep ! (0 ∷ []) $ by ! (exits g)))))
 
 pub node-at-spec : {M : Type 1} → stated.statement M
 unfolding code.routine tablesOf

@@ -175,8 +175,8 @@ module _ {M : Type 1} (𝓤 : URA M) (H : Heap 𝓤) (A : Atoms 𝓤) (W : Given
         move ! (6 ∷ 26 ∷ []) $ shuts-slice ! tt u32 s₂ (prev .now) (prev .ptr .0) (prev .ptr .1) $
         move ! (7 ∷ 26 ∷ []) $ shuts-slice ! tt u64 s₃ (ts .now) (ts .ptr .0) (ts .ptr .1) $
         returns ! (look ! 24 refl) $
-        move ! (25 ∷ 24 ∷ 9 ∷ 7 ∷ 10 ∷ 11 ∷ 4 ∷ 12 ∷ 5 ∷ 6 ∷ 13 ∷ 14 ∷ 15 ∷ 16 ∷ 17 ∷ 18 ∷ 19 ∷ 20 ∷ 21 ∷ 22 ∷ 23 ∷ []) $
-        frees-all ! (full _ _ _ ∷ full _ _ _ ∷ full _ _ _ ∷ full _ _ _ ∷ full _ _ _ ∷ full _ _ _ ∷ empty _ _ ∷ full _ _ _ ∷ full _ _ _ ∷ empty _ _ ∷ empty _ _ ∷ empty _ _ ∷ empty _ _ ∷ empty _ _ ∷ empty _ _ ∷ empty _ _ ∷ empty _ _ ∷ empty _ _ ∷ empty _ _ ∷ empty _ _ ∷ []) (
+        move ! (24 ∷ 9 ∷ 7 ∷ 10 ∷ 11 ∷ 4 ∷ 12 ∷ 5 ∷ 6 ∷ 13 ∷ 14 ∷ 15 ∷ 16 ∷ 17 ∷ 18 ∷ 19 ∷ 20 ∷ 21 ∷ 22 ∷ 23 ∷ 25 ∷ []) $
+        frees-all ! [] (full _ _ _ ∷ full _ _ _ ∷ full _ _ _ ∷ full _ _ _ ∷ full _ _ _ ∷ full _ _ _ ∷ empty _ _ ∷ full _ _ _ ∷ full _ _ _ ∷ empty _ _ ∷ empty _ _ ∷ empty _ _ ∷ empty _ _ ∷ empty _ _ ∷ empty _ _ ∷ empty _ _ ∷ empty _ _ ∷ empty _ _ ∷ empty _ _ ∷ empty _ _ ∷ []) _ (
         keep ! (4 ∷ 2 ∷ 1 ∷ 0 ∷ 3 ∷ []) $
         by ! (exits i same)))))))
 

@@ -93,8 +93,7 @@ module _ {M : Type 1} (𝓤 : URA M) (H : Heap 𝓤) (A : Atoms 𝓤) (W : Given
       leaves ! tt R (a .0) (set ns i n) (length-set ns i n) $
       assigns ! (of-opd ! (unit-lit !)) (from ! (stop !)) (init ! 4 refl (tt, tt)) $
       returns ! (look ! 4 refl) $
-      move ! (10 ∷ 4 ∷ 5 ∷ 6 ∷ 7 ∷ 8 ∷ 9 ∷ []) $
-      frees-all ! (full _ _ _ ∷ full _ _ _ ∷ full _ _ _ ∷ full _ _ _ ∷ full _ _ _ ∷ full _ _ _ ∷ []) (keep ! (0 ∷ 1 ∷ []) $ by ! exits)))
+      frees-all ! (_ ∷ _ ∷ _ ∷ _ ∷ []) (full _ _ _ ∷ full _ _ _ ∷ full _ _ _ ∷ full _ _ _ ∷ full _ _ _ ∷ full _ _ _ ∷ []) [] (keep ! (0 ∷ 1 ∷ []) $ by ! exits)))
 
 pub set-node-spec : {M : Type 1} → stated.statement M
 unfolding code.routine tablesOf
