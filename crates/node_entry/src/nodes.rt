@@ -45,7 +45,10 @@ pub fn set_node(nodes: &mut [Node], i: usize, n: Node)
 // Reads the fields of the first nodes, each into a slice of its own.
 pub fn gather(nodes: &[Node], next: &mut [u32], prev: &mut [u32], ts: &mut [u64])
     requires { ⌜ FlatRoom (now nodes) (now next) (now prev) (now ts) ⌝ }
-    ensures { λ _. ⌜ (now (next .exit) ≡ take (length (now (next .entry))) (nexts (now (nodes .entry)))) × (now (prev .exit) ≡ take (length (now (next .entry))) (prevs (now (nodes .entry)))) × (now (ts .exit) ≡ take (length (now (next .entry))) (tss (now (nodes .entry)))) ⌝ }
+    ensures { λ _.
+        let all = now (nodes .entry) in
+        let k = length (now (next .entry)) in
+        ⌜ (now (next .exit) ≡ take k (nexts all)) × (now (prev .exit) ≡ take k (prevs all)) × (now (ts .exit) ≡ take k (tss all)) ⌝ }
 {
     let mut i: usize = 0;
     while i < next.len() {
@@ -60,7 +63,11 @@ pub fn gather(nodes: &[Node], next: &mut [u32], prev: &mut [u32], ts: &mut [u64]
 // Writes the first nodes, each with its fields from the flat slices; the others stay.
 pub fn scatter(nodes: &mut [Node], next: &[u32], prev: &[u32], ts: &[u64])
     requires { ⌜ FlatRoom (now nodes) (now next) (now prev) (now ts) ⌝ }
-    ensures { λ _. ⌜ (nexts (now (nodes .exit)) ≡ now (next .entry) ++ drop (length (now (next .entry))) (nexts (now (nodes .entry)))) × (prevs (now (nodes .exit)) ≡ now (prev .entry) ++ drop (length (now (next .entry))) (prevs (now (nodes .entry)))) × (tss (now (nodes .exit)) ≡ now (ts .entry) ++ drop (length (now (next .entry))) (tss (now (nodes .entry)))) ⌝ }
+    ensures { λ _.
+        let before = now (nodes .entry) in
+        let after = now (nodes .exit) in
+        let k = length (now (next .entry)) in
+        ⌜ (nexts after ≡ now (next .entry) ++ drop k (nexts before)) × (prevs after ≡ now (prev .entry) ++ drop k (prevs before)) × (tss after ≡ now (ts .entry) ++ drop k (tss before)) ⌝ }
 {
     let mut i: usize = 0;
     while i < next.len() {

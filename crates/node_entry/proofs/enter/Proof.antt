@@ -142,7 +142,7 @@ module _ {M : Type 1} (𝓤 : URA M) (H : Heap 𝓤) (A : Atoms 𝓤) (W : Given
         begins ! (𝓣 .C) (𝓣 .Λ) code.function (vint w32 (P .n) ∷ vint w32 (P .literals) ∷ vint w32 (P .clauses) ∷ v (P .lits) ∷ v (P .ends) ∷ v (P .values) ∷ v (P .levels) ∷ v (P .reasons) ∷ v (P .trail) ∷ v (P .opened) ∷ v (P .nodes) ∷ LL.val TS.the-type TS′.the-laws s ∷ EL.val TC.the-type TC′.the-laws c ∷ v vars ∷ v stamps ∷ v order ∷ []) _ ((tt, record { fits = n-fits }), ((tt, record { fits = literals-fits }), ((tt, record { fits = clauses-fits }), ((tt, (tt, (record { fits = lits-room .0 }, tt))), ((tt, (tt, (record { fits = ends-room .0 }, tt))), ((tt, (tt, (record { fits = values-room .0 }, tt))), ((tt, (tt, (record { fits = levels-room .0 }, tt))), ((tt, (tt, (record { fits = reasons-room .0 }, tt))), ((tt, (tt, (record { fits = trail-room .0 }, tt))), ((tt, (tt, (record { fits = opened-room .0 }, tt))), ((tt, (tt, (record { fits = nodes-room .0 }, tt))), (LL.lawful TS.the-type TS′.the-laws 𝓤 H A W .typed s _ s-is .0, (EL.lawful TC.the-type TC′.the-laws 𝓤 H A W tt .typed c _ c-is .0, ((tt, (tt, (record { fits = vars-room .0 }, tt))), ((tt, (tt, (record { fits = stamps-room .0 }, tt))), ((tt, (tt, (record { fits = order-room .0 }, tt))), tt)))))))))))))))) (λ l.
         move ! (61 ∷ 62 ∷ []) $ use2 W (Front 𝓤 H A W P T F ⊛ ‵ (flft (P .κ₇) (P .q₇)) ⊛ ‵ (OwnN 𝓤 H A W P T)) (parts 𝓤 H A W P T F) $ apart ! _ (_ ∷ _ ∷ []) $
         -- [what is passed on; the nodes' token; the nodes; the locals; that they die]
-        learns-at ! (2 ∷ 1 ∷ 14 ∷ 20 ∷ 21 ∷ 22 ∷ 23 ∷ 25 ∷ 26 ∷ 27 ∷ 28 ∷ 29 ∷ 30 ∷ 31 ∷ 32 ∷ 33 ∷ 34 ∷ []) (copies-in 𝓤 H A W mem run (P .κ₇) (P .q₇) (P .nodes) nodes-room ! (fmOf 𝓤 H (W .laws) 𝓣) (known .0) (known .1) 17 refl refl) (λ d.
+        learns-at ! (2 ∷ 1 ∷ 14 ∷ 20 ∷ 21 ∷ 22 ∷ 23 ∷ 25 ∷ 26 ∷ 27 ∷ 28 ∷ 29 ∷ 30 ∷ 31 ∷ 32 ∷ 33 ∷ 34 ∷ []) (copies-in 𝓤 H A W mem run (P .κ₇) (P .q₇) (P .nodes) nodes-room ! (fmOf 𝓤 H (W .laws) 𝓣) (known .0) (known .1) 17 refl refl refl refl refl) (λ d.
         at ! (9 ∷ 35 ∷ 36 ∷ []) (reborrows ! refl refl refl (tt, tt) (tt, (tt, (record { fits = values-room .0 }, tt)))) $
         at ! (10 ∷ 37 ∷ 38 ∷ []) (reborrows ! refl refl refl (tt, tt) (tt, (tt, (record { fits = levels-room .0 }, tt)))) $
         at ! (11 ∷ 39 ∷ 40 ∷ []) (reborrows ! refl refl refl (tt, tt) (tt, (tt, (record { fits = reasons-room .0 }, tt)))) $
@@ -160,7 +160,7 @@ module _ {M : Type 1} (𝓤 : URA M) (H : Heap 𝓤) (A : Atoms 𝓤) (W : Given
         peeks ! TA.the-row (Is TA.the-row) (shows 𝓤 H A TA.the-row) (e .answer) (e .value ∷ []) (λ is.
         -- [the answer; what comes back; the nodes' token; the nodes; the locals; that they die]
         land ! (from ! (stop !)) (init ! 25 refl (LL.lawful TA.the-type TA′.the-laws 𝓤 H A W .typed (e .answer) _ is .0)) $
-        learns-at ! (3 ∷ 2 ∷ 15 ∷ 21 ∷ 22 ∷ 23 ∷ 24 ∷ 25 ∷ 27 ∷ 4 ∷ 56 ∷ 57 ∷ 58 ∷ 59 ∷ 60 ∷ 61 ∷ 62 ∷ 63 ∷ []) (copies-out 𝓤 H A W mem run (P .κ₇) (P .q₇) (P .nodes) nodes-room ! (fmOf 𝓤 H (W .laws) 𝓣) (known .3) (d .k) (d .small) (d .fits) (v₁ (e .lasts)) (v₂ (e .lasts)) (v₃ (e .lasts)) (e .long₁) (e .long₂) (e .long₃) 17 52 refl refl refl refl (LL.lawful TA.the-type TA′.the-laws 𝓤 H A W .typed (e .answer) _ is .0)) (λ o.
+        learns-at ! (3 ∷ 2 ∷ 15 ∷ 21 ∷ 22 ∷ 23 ∷ 24 ∷ 25 ∷ 27 ∷ 4 ∷ 56 ∷ 57 ∷ 58 ∷ 59 ∷ 60 ∷ 61 ∷ 62 ∷ 63 ∷ []) (copies-out 𝓤 H A W mem run (P .κ₇) (P .q₇) (P .nodes) nodes-room ! (fmOf 𝓤 H (W .laws) 𝓣) (known .3) (d .k) (d .small) (d .fits) (v₁ (e .lasts)) (v₂ (e .lasts)) (v₃ (e .lasts)) (e .long₁) (e .long₂) (e .long₃) 17 52 refl refl refl refl refl refl refl (LL.lawful TA.the-type TA′.the-laws 𝓤 H A W .typed (e .answer) _ is .0)) (λ o.
         frees-all ! (_ ∷ _ ∷ _ ∷ _ ∷ []) (full _ _ _ ∷ full _ _ _ ∷ full _ _ _ ∷ full _ _ _ ∷ full _ _ _ ∷ full _ _ _ ∷ full _ _ _ ∷ full _ _ _ ∷ full _ _ _ ∷ full _ _ _ ∷ full _ _ _ ∷ full _ _ _ ∷ full _ _ _ ∷ full _ _ _ ∷ full _ _ _ ∷ full _ _ _ ∷ full _ _ _ ∷ full _ _ _ ∷ empty _ _ ∷ empty _ _ ∷ empty _ _ ∷ full _ _ _ ∷ full _ _ _ ∷ full _ _ _ ∷ full _ _ _ ∷ full _ _ _ ∷ full _ _ _ ∷ full _ _ _ ∷ full _ _ _ ∷ full _ _ _ ∷ full _ _ _ ∷ full _ _ _ ∷ full _ _ _ ∷ full _ _ _ ∷ full _ _ _ ∷ full _ _ _ ∷ full _ _ _ ∷ full _ _ _ ∷ full _ _ _ ∷ full _ _ _ ∷ full _ _ _ ∷ full _ _ _ ∷ full _ _ _ ∷ full _ _ _ ∷ full _ _ _ ∷ full _ _ _ ∷ full _ _ _ ∷ full _ _ _ ∷ full _ _ _ ∷ full _ _ _ ∷ full _ _ _ ∷ full _ _ _ ∷ full _ _ _ ∷ full _ _ _ ∷ full _ _ _ ∷ full _ _ _ ∷ full _ _ _ ∷ full _ _ _ ∷ full _ _ _ ∷ full _ _ _ ∷ []) [] (
         by ! (leaves (e .lasts) (o .nodes) (e .answer) (e .value) (told-all P s answers (e .lasts) (e .answer) (λ next prev ts out. entered-out (P .n) (P .clauses) (P .lits .now) (P .values .now) (P .levels .now) (P .reasons .now) (P .trail .now) (P .opened .now) s (P .literals) (P .ends .now) next prev ts out (asks c (vars .now) (stamps .now) (order .now))) d o told) clear)))))))))
 

@@ -1,4 +1,5 @@
 -- The copying in and out around a core's call, as one rule each: a function with the nodes in its parameter 11 and arrays of its own.
+-- Which array is passed in which place is told by where it lies.
 --     copies-in    the nodes are counted (`room_for`), the arrays are made, and the fields are gathered into them
 --     copies-out   the fields are scattered, and the core's answer is returned
 use mathlib.Core.Path.{_≡_, refl, sym, ap, _∙_}
@@ -116,15 +117,15 @@ module _ {M : Type 1} (𝓤 : URA M) (H : Heap 𝓤) (A : Atoms 𝓤) (W : Given
 
     module _ {K : Type 0} {E : Env 𝓤 H} {C : Calls 𝓤 H} {Λ : Loops 𝓤 H} where
       pub copies-in : K → {Γ : List (Item 𝓤)} {z : Post 𝓤 H} {rest : Body} → FmC 𝓤 H (W .laws) C → Triple 𝓤 (C #nodes·room-for) (Sizing 𝓤 H A mem run) → Triple 𝓤 (C #nodes·gather) (Gathering 𝓤 H A mem run)
-          → (p : ℕ) {ln lk l₁ l₂ l₃ lr lc lu t₀ t₁ t₂ t₃ t₄ t₅ t₆ t₇ : ℕ} {σ τr : Ty} {E′ : Env 𝓤 H} → spotOf 𝓤 H E 11 ≡ (sN, ln, 0)
-          → drop′ p E ≡ (tyInt w64, lk) ∷ (array₄, l₁) ∷ (array₄, l₂) ∷ (array₈, l₃) ∷ (τr, lr) ∷ (tyInt w64, lc) ∷ (tyUnit, lu) ∷ four imm mut t₀ t₁ t₂ t₃ t₄ t₅ t₆ t₇ E′
+          → (p : ℕ) {i₁ i₂ i₃ ln lk l₁ l₂ l₃ lr lc lu t₀ t₁ t₂ t₃ t₄ t₅ t₆ t₇ : ℕ} {σ τr : Ty} {E′ : Env 𝓤 H} → spotOf 𝓤 H E 11 ≡ (sN, ln, 0)
+          → drop′ p E ≡ (tyInt w64, lk) ∷ (array₄, l₁) ∷ (array₄, l₂) ∷ (array₈, l₃) ∷ (τr, lr) ∷ (tyInt w64, lc) ∷ (tyUnit, lu) ∷ four imm mut t₀ t₁ t₂ t₃ t₄ t₅ t₆ t₇ E′ → spotOf 𝓤 H E i₁ ≡ (array₄, l₁, 0) → spotOf 𝓤 H E i₂ ≡ (array₄, l₂, 0) → spotOf 𝓤 H E i₃ ≡ (array₈, l₃, 0)
           → ((c : Copied (nodes .now)) → Seq K W (‵ Own ∷ ‵ (flft κ q) ∷ cell sN ln (v nodes) ∷ cell (tyInt w64) lk (vint w64 (c .k)) ∷ Array₄ (c .k) (c .next) l₁ ∷ Array₄ (c .k) (c .prev) l₂ ∷ Array₈ (c .k) (c .ts) l₃ ∷ cell (tyInt w64) lc (vint w64 (length (nodes .now))) ∷ cell tyUnit lu vunit ∷ passed imm mut (c .k) l₁ l₂ l₃ t₀ t₁ t₂ t₃ t₄ t₅ t₆ t₇ Γ) (runs C Λ E rest z))
           → Seq K W (‵ Own ∷ ‵ (flft κ q) ∷ cell sN ln (v nodes) ∷ free (tyInt w64) lk ∷ free array₄ l₁ ∷ free array₄ l₂ ∷ free array₈ l₃ ∷ free (tyInt w64) lc ∷ free tyUnit lu ∷ unpassed imm mut t₀ t₁ t₂ t₃ t₄ t₅ t₆ t₇ Γ)
           (runs C Λ E (seq (assign (place (p + 5) []) (rvOpd (copy (place 11 (field 1 ∷ []))))) (seq (call #nodes·room-for (copy (place (p + 5) []) ∷ []) (place (p + 0) []))
           (seq (assign (place (p + 1) []) (repeat (int w32 0) room)) (seq (assign (place (p + 2) []) (repeat (int w32 0) room)) (seq (assign (place (p + 3) []) (repeat (int w64 0) room))
-          (reborrow 11 (p + 7) (p + 8) σ (front-of (p + 1) (p + 0) (p + 9) (p + 10) (front-of (p + 2) (p + 0) (p + 11) (p + 12) (front-of (p + 3) (p + 0) (p + 13) (p + 14)
+          (reborrow 11 (p + 7) (p + 8) σ (front-of i₁ (p + 0) (p + 9) (p + 10) (front-of i₂ (p + 0) (p + 11) (p + 12) (front-of i₃ (p + 0) (p + 13) (p + 14)
           (seq (call #nodes·gather (copy (place (p + 8) []) ∷ copy (place (p + 10) []) ∷ copy (place (p + 12) []) ∷ copy (place (p + 14) []) ∷ []) (place (p + 6) [])) rest)))))))))) z)
-      copies-in t fm known-room known-gather p {l₁ = l₁} {l₂ = l₂} {l₃ = l₃} e11 e go-on =
+      copies-in t fm known-room known-gather p {l₁ = l₁} {l₂ = l₂} {l₃ = l₃} e11 e e₁ e₂ e₃ go-on =
           assigns t (of-opd t (load t (at-local t e11 (fld t refl (stop t))) (look-in t 2 (sub t 1 refl (whole t))))) (at-local t (spot 𝓤 H E p e 5) (stop t)) (init t 7 refl (tt, record { fits = has .0 })) $
           sizes t mem run fm known-room (length (nodes .now)) (has .0) (and-then t (load t (at-local t (spot 𝓤 H E p e 5) (stop t)) (look t 8 refl)) (no-more t)) (λ k small fits.
           land t (at-local t (spot 𝓤 H E p e 0) (stop t)) (init t 3 refl (tt, record { fits = small })) $
@@ -132,9 +133,9 @@ module _ {M : Type 1} (𝓤 : URA M) (H : Heap 𝓤) (A : Atoms 𝓤) (W : Given
           at t (5 ∷ []) (step (λ go. fills-local t u32 (uint-copy 𝓤 H A W w32) tt (uint-makes 𝓤 H A W w32) room k 0 w32 0 tt (refl, lit< tt) (zeros-typed₄ 𝓤 H A W) (spot 𝓤 H E p e 2) $ join t $ go)) $
           at t (6 ∷ []) (step (λ go. fills-local t u64 (uint-copy 𝓤 H A W w64) tt (uint-makes 𝓤 H A W w64) room k 0 w64 0 tt (refl, lit< tt) (zeros-typed₈ 𝓤 H A W) (spot 𝓤 H E p e 3) $ join t $ go)) $
           at t (2 ∷ 9 ∷ 10 ∷ []) (reborrows t e11 (spot 𝓤 H E p e 7) (spot 𝓤 H E p e 8) (tt, tt) (tt, (tt, (record { fits = has .0 }, tt)))) $
-          at t (3 ∷ 11 ∷ 12 ∷ []) (fronts-of t (spot 𝓤 H E p e 1) (spot 𝓤 H E p e 0) (spot 𝓤 H E p e 9) (spot 𝓤 H E p e 10) (tt, tt) (tt, (tt, (record { fits = small }, tt)))) $
-          at t (3 ∷ 13 ∷ 14 ∷ []) (fronts-of t (spot 𝓤 H E p e 2) (spot 𝓤 H E p e 0) (spot 𝓤 H E p e 11) (spot 𝓤 H E p e 12) (tt, tt) (tt, (tt, (record { fits = small }, tt)))) $
-          at t (3 ∷ 15 ∷ 16 ∷ []) (fronts-of t (spot 𝓤 H E p e 3) (spot 𝓤 H E p e 0) (spot 𝓤 H E p e 13) (spot 𝓤 H E p e 14) (tt, tt) (tt, (tt, (record { fits = small }, tt)))) $
+          at t (3 ∷ 11 ∷ 12 ∷ []) (fronts-of t e₁ (spot 𝓤 H E p e 0) (spot 𝓤 H E p e 9) (spot 𝓤 H E p e 10) (tt, tt) (tt, (tt, (record { fits = small }, tt)))) $
+          at t (3 ∷ 13 ∷ 14 ∷ []) (fronts-of t e₂ (spot 𝓤 H E p e 0) (spot 𝓤 H E p e 11) (spot 𝓤 H E p e 12) (tt, tt) (tt, (tt, (record { fits = small }, tt)))) $
+          at t (3 ∷ 15 ∷ 16 ∷ []) (fronts-of t e₃ (spot 𝓤 H E p e 0) (spot 𝓤 H E p e 13) (spot 𝓤 H E p e 14) (tt, tt) (tt, (tt, (record { fits = small }, tt)))) $
           move t (4 ∷ 5 ∷ 6 ∷ []) $ split t $ move t (2 ∷ []) $ split t $ move t (4 ∷ []) $ split t $ move t (6 ∷ 7 ∷ 4 ∷ 2 ∷ 0 ∷ []) $
           gathers t mem run fm known-gather κ q (nodes .name) (nodes .ptr .0) (nodes .ptr .1) (nodes .now) (length (nodes .now)) refl has l₁ (take k zeros) k (long (nodes .now) fits) (room₄ (nodes .now) fits) l₂ (take k zeros) k (long (nodes .now) fits) (room₄ (nodes .now) fits) l₃ (take k zeros) k (long (nodes .now) fits) (room₈ (nodes .now) fits) (fronts (nodes .now) fits (long (nodes .now) fits) (long (nodes .now) fits) (long (nodes .now) fits))
           (λ ν₀ δ₀ ν₁ δ₁ ν₂ δ₂ ν₃ δ₃. and-then t (load t (at-local t (spot 𝓤 H E p e 8) (stop t)) (look t 13 refl)) (and-then t (load t (at-local t (spot 𝓤 H E p e 10) (stop t)) (look t 15 refl)) (and-then t (load t (at-local t (spot 𝓤 H E p e 12) (stop t)) (look t 17 refl)) (and-then t (load t (at-local t (spot 𝓤 H E p e 14) (stop t)) (look t 19 refl)) (no-more t))))) (λ u₁ u₂ u₃ m₁ m₂ m₃ got.
@@ -154,17 +155,17 @@ module _ {M : Type 1} (𝓤 : URA M) (H : Heap 𝓤) (A : Atoms 𝓤) (W : Given
           })))
 
       pub copies-out : K → {Γ : List (Item 𝓤)} {Kf : Val → SProp 𝓤} → FmC 𝓤 H (W .laws) C → Triple 𝓤 (C #nodes·scatter) (Scattering 𝓤 H A mem run) → (k : ℕ) → k < 2 ^ 64 → k ≡ roomFor (length (nodes .now)) → (v₁ v₂ v₃ : List ℕ) → length v₁ ≡ k → length v₂ ≡ k → length v₃ ≡ k
-          → (p p′ : ℕ) {ln lk l₁ l₂ l₃ lr lc lu l₀ t₀ t₁ t₂ t₃ t₄ t₅ t₆ t₇ : ℕ} {σ τr : Ty} {w : Val} {E′ E″ : Env 𝓤 H} → spotOf 𝓤 H E 0 ≡ (τr, l₀, 0) → spotOf 𝓤 H E 11 ≡ (sN, ln, 0)
-          → drop′ p E ≡ (tyInt w64, lk) ∷ (array₄, l₁) ∷ (array₄, l₂) ∷ (array₈, l₃) ∷ (τr, lr) ∷ (tyInt w64, lc) ∷ (tyUnit, lu) ∷ E′ → drop′ p′ E ≡ four mut imm t₀ t₁ t₂ t₃ t₄ t₅ t₆ t₇ E″ → T (hasTy τr w) × WT w
+          → (p p′ : ℕ) {i₁ i₂ i₃ ln lk l₁ l₂ l₃ lr lc lu l₀ t₀ t₁ t₂ t₃ t₄ t₅ t₆ t₇ : ℕ} {σ τr : Ty} {w : Val} {E′ E″ : Env 𝓤 H} → spotOf 𝓤 H E 0 ≡ (τr, l₀, 0) → spotOf 𝓤 H E 11 ≡ (sN, ln, 0)
+          → drop′ p E ≡ (tyInt w64, lk) ∷ (array₄, l₁) ∷ (array₄, l₂) ∷ (array₈, l₃) ∷ (τr, lr) ∷ (tyInt w64, lc) ∷ (tyUnit, lu) ∷ E′ → drop′ p′ E ≡ four mut imm t₀ t₁ t₂ t₃ t₄ t₅ t₆ t₇ E″ → spotOf 𝓤 H E i₁ ≡ (array₄, l₁, 0) → spotOf 𝓤 H E i₂ ≡ (array₄, l₂, 0) → spotOf 𝓤 H E i₃ ≡ (array₈, l₃, 0) → T (hasTy τr w) × WT w
           → ((c : Written (nodes .now) k v₁ v₂ v₃) → Seq K W (‵ (fsep (finally R (nodes .name) (c .nodes)) (feq ℕ (length (c .nodes)) (length (nodes .now)))) ∷ ‵ (flft κ q) ∷ cell sN ln (v nodes) ∷ cell (tyInt w64) lk (vint w64 k) ∷ free array₄ l₁ ∷ free array₄ l₂ ∷ free array₈ l₃ ∷ cell τr lr w ∷ cell tyUnit lu vunit ∷ cell τr l₀ w ∷ passed mut imm k l₁ l₂ l₃ t₀ t₁ t₂ t₃ t₄ t₅ t₆ t₇ Γ) (frees E (prop (Kf w))))
           → Seq K W (‵ Own ∷ ‵ (flft κ q) ∷ cell sN ln (v nodes) ∷ cell (tyInt w64) lk (vint w64 k) ∷ Array₄ k v₁ l₁ ∷ Array₄ k v₂ l₂ ∷ Array₈ k v₃ l₃ ∷ cell τr lr w ∷ cell tyUnit lu vunit ∷ free τr l₀ ∷ unpassed mut imm t₀ t₁ t₂ t₃ t₄ t₅ t₆ t₇ Γ)
-          (runs C Λ E (reborrow 11 (p′ + 0) (p′ + 1) σ (front-of (p + 1) (p + 0) (p′ + 2) (p′ + 3) (front-of (p + 2) (p + 0) (p′ + 4) (p′ + 5) (front-of (p + 3) (p + 0) (p′ + 6) (p′ + 7)
+          (runs C Λ E (reborrow 11 (p′ + 0) (p′ + 1) σ (front-of i₁ (p + 0) (p′ + 2) (p′ + 3) (front-of i₂ (p + 0) (p′ + 4) (p′ + 5) (front-of i₃ (p + 0) (p′ + 6) (p′ + 7)
           (seq (call #nodes·scatter (copy (place (p′ + 1) []) ∷ copy (place (p′ + 3) []) ∷ copy (place (p′ + 5) []) ∷ copy (place (p′ + 7) []) ∷ []) (place (p + 6) [])) (seq (assign (place 0 []) (rvOpd (copy (place (p + 4) [])))) return)))))) (atRet E Kf))
-      copies-out t fm known k small fits v₁ v₂ v₃ k₁ k₂ k₃ p p′ {l₁ = l₁} {l₂ = l₂} {l₃ = l₃} {w = w} e0 e11 e e′ typed go-on =
+      copies-out t fm known k small fits v₁ v₂ v₃ k₁ k₂ k₃ p p′ {l₁ = l₁} {l₂ = l₂} {l₃ = l₃} {w = w} e0 e11 e e′ e₁ e₂ e₃ typed go-on =
           at t (2 ∷ 10 ∷ 11 ∷ []) (reborrows t e11 (spot 𝓤 H E p′ e′ 0) (spot 𝓤 H E p′ e′ 1) (tt, tt) (tt, (tt, (record { fits = has .0 }, tt)))) $
-          at t (3 ∷ 12 ∷ 13 ∷ []) (fronts-of t (spot 𝓤 H E p e 1) (spot 𝓤 H E p e 0) (spot 𝓤 H E p′ e′ 2) (spot 𝓤 H E p′ e′ 3) (tt, tt) (tt, (tt, (record { fits = small }, tt)))) $
-          at t (3 ∷ 14 ∷ 15 ∷ []) (fronts-of t (spot 𝓤 H E p e 2) (spot 𝓤 H E p e 0) (spot 𝓤 H E p′ e′ 4) (spot 𝓤 H E p′ e′ 5) (tt, tt) (tt, (tt, (record { fits = small }, tt)))) $
-          at t (3 ∷ 16 ∷ 17 ∷ []) (fronts-of t (spot 𝓤 H E p e 3) (spot 𝓤 H E p e 0) (spot 𝓤 H E p′ e′ 6) (spot 𝓤 H E p′ e′ 7) (tt, tt) (tt, (tt, (record { fits = small }, tt)))) $
+          at t (3 ∷ 12 ∷ 13 ∷ []) (fronts-of t e₁ (spot 𝓤 H E p e 0) (spot 𝓤 H E p′ e′ 2) (spot 𝓤 H E p′ e′ 3) (tt, tt) (tt, (tt, (record { fits = small }, tt)))) $
+          at t (3 ∷ 14 ∷ 15 ∷ []) (fronts-of t e₂ (spot 𝓤 H E p e 0) (spot 𝓤 H E p′ e′ 4) (spot 𝓤 H E p′ e′ 5) (tt, tt) (tt, (tt, (record { fits = small }, tt)))) $
+          at t (3 ∷ 16 ∷ 17 ∷ []) (fronts-of t e₃ (spot 𝓤 H E p e 0) (spot 𝓤 H E p′ e′ 6) (spot 𝓤 H E p′ e′ 7) (tt, tt) (tt, (tt, (record { fits = small }, tt)))) $
           move t (4 ∷ 5 ∷ 6 ∷ []) $ split t $ move t (2 ∷ []) $ split t $ move t (4 ∷ []) $ split t $ move t (6 ∷ 7 ∷ 4 ∷ 2 ∷ 0 ∷ []) $
           scatters t mem run fm known κ q (nodes .name) (nodes .ptr .0) (nodes .ptr .1) (nodes .now) (length (nodes .now)) refl has l₁ v₁ k k₁ (room₄ (nodes .now) fits) l₂ v₂ k k₂ (room₄ (nodes .now) fits) l₃ v₃ k k₃ (room₈ (nodes .now) fits) (fronts (nodes .now) fits k₁ k₂ k₃)
           (λ ν₁ δ₁ ν₂ δ₂ ν₃ δ₃. and-then t (load t (at-local t (spot 𝓤 H E p′ e′ 1) (stop t)) (look t 13 refl)) (and-then t (load t (at-local t (spot 𝓤 H E p′ e′ 3) (stop t)) (look t 15 refl)) (and-then t (load t (at-local t (spot 𝓤 H E p′ e′ 5) (stop t)) (look t 17 refl)) (and-then t (load t (at-local t (spot 𝓤 H E p′ e′ 7) (stop t)) (look t 19 refl)) (no-more t))))) (λ ms still put.

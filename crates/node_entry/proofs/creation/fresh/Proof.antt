@@ -134,7 +134,7 @@ module _ {M : Type 1} (𝓤 : URA M) (H : Heap 𝓤) (A : Atoms 𝓤) (W : Given
         begins ! (𝓣 .C) (𝓣 .Λ) code.function (vint w32 (P .n) ∷ vint w32 (P .literals) ∷ vint w32 (P .clauses) ∷ v (P .lits) ∷ v (P .ends) ∷ v (P .values) ∷ v (P .levels) ∷ v (P .reasons) ∷ v (P .trail) ∷ v (P .opened) ∷ v (P .nodes) ∷ v counts ∷ v indexes ∷ []) _ ((tt, record { fits = n-fits }), ((tt, record { fits = literals-fits }), ((tt, record { fits = clauses-fits }), ((tt, (tt, (record { fits = lits-room .0 }, tt))), ((tt, (tt, (record { fits = ends-room .0 }, tt))), ((tt, (tt, (record { fits = values-room .0 }, tt))), ((tt, (tt, (record { fits = levels-room .0 }, tt))), ((tt, (tt, (record { fits = reasons-room .0 }, tt))), ((tt, (tt, (record { fits = trail-room .0 }, tt))), ((tt, (tt, (record { fits = opened-room .0 }, tt))), ((tt, (tt, (record { fits = nodes-room .0 }, tt))), ((tt, (tt, (record { fits = counts-room .0 }, tt))), ((tt, (tt, (record { fits = indexes-room .0 }, tt))), tt))))))))))))) (λ l.
         move ! (58 ∷ 59 ∷ []) $ use2 W (Front 𝓤 H A W P T F ⊛ ‵ (flft (P .κ₇) (P .q₇)) ⊛ ‵ (OwnN 𝓤 H A W P T)) (parts 𝓤 H A W P T F) $ apart ! _ (_ ∷ _ ∷ []) $
         -- [what is passed on; the nodes' token; the nodes; the locals; that they die]
-        learns-at ! (2 ∷ 1 ∷ 14 ∷ 17 ∷ 18 ∷ 19 ∷ 20 ∷ 22 ∷ 23 ∷ 24 ∷ 25 ∷ 26 ∷ 27 ∷ 28 ∷ 29 ∷ 30 ∷ 31 ∷ []) (copies-in 𝓤 H A W mem run (P .κ₇) (P .q₇) (P .nodes) nodes-room ! (fmOf 𝓤 H (W .laws) 𝓣) (known .0) (known .1) 14 refl refl) (λ d.
+        learns-at ! (2 ∷ 1 ∷ 14 ∷ 17 ∷ 18 ∷ 19 ∷ 20 ∷ 22 ∷ 23 ∷ 24 ∷ 25 ∷ 26 ∷ 27 ∷ 28 ∷ 29 ∷ 30 ∷ 31 ∷ []) (copies-in 𝓤 H A W mem run (P .κ₇) (P .q₇) (P .nodes) nodes-room ! (fmOf 𝓤 H (W .laws) 𝓣) (known .0) (known .1) 14 refl refl refl refl refl) (λ d.
         at ! (9 ∷ 32 ∷ 33 ∷ []) (reborrows ! refl refl refl (tt, tt) (tt, (tt, (record { fits = values-room .0 }, tt)))) $
         at ! (10 ∷ 34 ∷ 35 ∷ []) (reborrows ! refl refl refl (tt, tt) (tt, (tt, (record { fits = levels-room .0 }, tt)))) $
         at ! (11 ∷ 36 ∷ 37 ∷ []) (reborrows ! refl refl refl (tt, tt) (tt, (tt, (record { fits = reasons-room .0 }, tt)))) $
@@ -152,7 +152,7 @@ module _ {M : Type 1} (𝓤 : URA M) (H : Heap 𝓤) (A : Atoms 𝓤) (W : Given
         peeks ! TA.the-row (Is TA.the-row) (shows 𝓤 H A TA.the-row) (e .answer) (e .value ∷ []) (λ is.
         -- [the answer; what comes back; the nodes' token; the nodes; the locals; that they die]
         land ! (from ! (stop !)) (init ! 22 refl (LL.lawful TA.the-type TA′.the-laws 𝓤 H A W .typed (e .answer) _ is .0)) $
-        learns-at ! (3 ∷ 2 ∷ 15 ∷ 18 ∷ 19 ∷ 20 ∷ 21 ∷ 22 ∷ 24 ∷ 4 ∷ 53 ∷ 54 ∷ 55 ∷ 56 ∷ 57 ∷ 58 ∷ 59 ∷ 60 ∷ []) (copies-out 𝓤 H A W mem run (P .κ₇) (P .q₇) (P .nodes) nodes-room ! (fmOf 𝓤 H (W .laws) 𝓣) (known .3) (d .k) (d .small) (d .fits) (v₁ (e .lasts)) (v₂ (e .lasts)) (v₃ (e .lasts)) (e .long₁) (e .long₂) (e .long₃) 14 49 refl refl refl refl (LL.lawful TA.the-type TA′.the-laws 𝓤 H A W .typed (e .answer) _ is .0)) (λ o.
+        learns-at ! (3 ∷ 2 ∷ 15 ∷ 18 ∷ 19 ∷ 20 ∷ 21 ∷ 22 ∷ 24 ∷ 4 ∷ 53 ∷ 54 ∷ 55 ∷ 56 ∷ 57 ∷ 58 ∷ 59 ∷ 60 ∷ []) (copies-out 𝓤 H A W mem run (P .κ₇) (P .q₇) (P .nodes) nodes-room ! (fmOf 𝓤 H (W .laws) 𝓣) (known .3) (d .k) (d .small) (d .fits) (v₁ (e .lasts)) (v₂ (e .lasts)) (v₃ (e .lasts)) (e .long₁) (e .long₂) (e .long₃) 14 49 refl refl refl refl refl refl refl (LL.lawful TA.the-type TA′.the-laws 𝓤 H A W .typed (e .answer) _ is .0)) (λ o.
         frees-all ! (_ ∷ _ ∷ _ ∷ _ ∷ []) (full _ _ _ ∷ full _ _ _ ∷ full _ _ _ ∷ full _ _ _ ∷ full _ _ _ ∷ full _ _ _ ∷ full _ _ _ ∷ full _ _ _ ∷ full _ _ _ ∷ full _ _ _ ∷ full _ _ _ ∷ full _ _ _ ∷ full _ _ _ ∷ full _ _ _ ∷ full _ _ _ ∷ empty _ _ ∷ empty _ _ ∷ empty _ _ ∷ full _ _ _ ∷ full _ _ _ ∷ full _ _ _ ∷ full _ _ _ ∷ full _ _ _ ∷ full _ _ _ ∷ full _ _ _ ∷ full _ _ _ ∷ full _ _ _ ∷ full _ _ _ ∷ full _ _ _ ∷ full _ _ _ ∷ full _ _ _ ∷ full _ _ _ ∷ full _ _ _ ∷ full _ _ _ ∷ full _ _ _ ∷ full _ _ _ ∷ full _ _ _ ∷ full _ _ _ ∷ full _ _ _ ∷ full _ _ _ ∷ full _ _ _ ∷ full _ _ _ ∷ full _ _ _ ∷ full _ _ _ ∷ full _ _ _ ∷ full _ _ _ ∷ full _ _ _ ∷ full _ _ _ ∷ full _ _ _ ∷ full _ _ _ ∷ full _ _ _ ∷ full _ _ _ ∷ full _ _ _ ∷ full _ _ _ ∷ full _ _ _ ∷ full _ _ _ ∷ full _ _ _ ∷ []) [] (
         by ! (leaves (e .lasts) (o .nodes) (e .answer) (e .value) (told-all P blank answers (e .lasts) (e .answer) (λ next prev ts out. made-out (P .n) (P .clauses) (P .lits .now) (P .values .now) (P .levels .now) (P .reasons .now) (P .trail .now) (P .opened .now) blank (P .literals) (P .ends .now) next prev ts out (counts .now) (indexes .now)) d o told) clear)))))))))
 
