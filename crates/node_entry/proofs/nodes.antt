@@ -1,11 +1,19 @@
 -- What the walks of the functions over nodes share.
+pub mod Copying
+pub mod Counting
+pub mod Elements
 pub mod Filled
 pub mod Gathering
 pub mod Lending
 pub mod LocalArray
 pub mod Locals
 pub mod Packing
+pub mod Passing
+pub mod Reading
 pub mod Reborrow
 pub mod Rooms
 pub mod Scattering
 pub mod Sizing
+pub mod Telling
+pub mod Walking
+pub mod Writing

@@ -94,11 +94,14 @@ module _ (n m : ℕ) (lits values levels reasons trail opened : List ℕ) (s : L
         (out _ _ _ (λ small q. omega (arith, small, q, z, e)), out _ _ _ (λ small q. omega (arith, small, q, h, length-map ns (λ (d : Node). d .next))))
 
     -- what it answers for the first, it answers for all
-    pub first-for-all : (values' levels' reasons' trail' opened' next' prev' ts' : List ℕ) (s' : ListState) (ms : List Node) (status reply : ℕ)
+    pub first-for-all : (next₀ prev₀ ts₀ values' levels' reasons' trail' opened' next' prev' ts' : List ℕ) (s' : ListState) (ms : List Node) (status reply : ℕ)
+        → (next₀ ≡ take k (nexts ns)) × (prev₀ ≡ take k (prevs ns)) × (ts₀ ≡ take k (tss ns))
         → (nexts ms ≡ next' ++ drop k (nexts ns)) × (prevs ms ≡ prev' ++ drop k (prevs ns)) × (tss ms ≡ ts' ++ drop k (tss ns))
-        → Answered (answers first) first status reply (sessionOf n m lits values' levels' reasons' trail' opened' next' prev' ts' s')
+        → Answered (answers (listed next₀ prev₀ ts₀)) (listed next₀ prev₀ ts₀) status reply (sessionOf n m lits values' levels' reasons' trail' opened' next' prev' ts' s')
         → Answered (answers all) all status reply (sessionOf n m lits values' levels' reasons' trail' opened' (nexts ms) (prevs ms) (tss ms) s')
-    first-for-all values' levels' reasons' trail' opened' next' prev' ts' s' ms status reply h a = by-cases (decLt (length ns) room)
+    first-for-all next₀ prev₀ ts₀ values' levels' reasons' trail' opened' next' prev' ts' s' ms status reply g h a₀ =
+        let a = rw (g .0, g .1, g .2) at a₀ in
+        by-cases (decLt (length ns) room)
         (λ b.
         let x = few b (λ (d : Node). d .next) in
         let y = few b (λ (d : Node). d .prev) in

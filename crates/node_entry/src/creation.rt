@@ -29,14 +29,13 @@ pub fn fresh(
     counts: &mut [u32],
     indexes: &mut [u32],
 ) -> ListAnswer
-    ensures { λ r. ⌜ Answered
-        (made n clauses (now (lits .entry)) literals (now (ends .entry)) (now (counts .entry)) (now (indexes .entry))
-        (sessionOf n clauses (now (lits .entry)) (now (values .entry)) (now (levels .entry)) (now (reasons .entry)) (now (trail .entry)) (now (opened .entry)) (nexts (now (nodes .entry))) (prevs (now (nodes .entry))) (tss (now (nodes .entry))) blank))
-        (sessionOf n clauses (now (lits .entry)) (now (values .entry)) (now (levels .entry)) (now (reasons .entry)) (now (trail .entry)) (now (opened .entry)) (nexts (now (nodes .entry))) (prevs (now (nodes .entry))) (tss (now (nodes .entry))) blank)
-        (r .status)
-        (r .reply)
-        (sessionOf n clauses (now (lits .entry)) (now (values .exit)) (now (levels .exit)) (now (reasons .exit)) (now (trail .exit)) (now (opened .exit)) (nexts (now (nodes .exit))) (prevs (now (nodes .exit))) (tss (now (nodes .exit))) (r .state)) ⌝ }
-    ensures { λ r. ⌜ (now (counts .exit) ≡ cleared (eqb (r .status) 0) (now (counts .entry))) × (now (indexes .exit) ≡ cleared (eqb (r .status) 0) (now (indexes .entry))) ⌝ }
+    ensures { λ r.
+        let before = sessionOf n clauses (now (lits .entry)) (now (values .entry)) (now (levels .entry)) (now (reasons .entry)) (now (trail .entry)) (now (opened .entry)) (nexts (now (nodes .entry))) (prevs (now (nodes .entry))) (tss (now (nodes .entry))) blank in
+        let after = sessionOf n clauses (now (lits .entry)) (now (values .exit)) (now (levels .exit)) (now (reasons .exit)) (now (trail .exit)) (now (opened .exit)) (nexts (now (nodes .exit))) (prevs (now (nodes .exit))) (tss (now (nodes .exit))) (r .state) in
+        ⌜ Answered (made n clauses (now (lits .entry)) literals (now (ends .entry)) (now (counts .entry)) (now (indexes .entry)) before) before (r .status) (r .reply) after ⌝ }
+    ensures { λ r.
+        let used = eqb (r .status) 0 in
+        ⌜ (now (counts .exit) ≡ cleared used (now (counts .entry))) × (now (indexes .exit) ≡ cleared used (now (indexes .entry))) ⌝ }
 {
     let k = room_for(nodes.len());
     let mut next = [0u32; ROOM];

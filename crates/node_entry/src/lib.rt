@@ -37,14 +37,14 @@ pub fn enter(
     stamps: &mut [u64],
     order: &mut [u32],
 ) -> ListAnswer
-    ensures { λ r. ⌜ Answered
-        (entered n clauses (now (lits .entry)) literals (now (ends .entry)) (asks call (now (vars .entry)) (now (stamps .entry)) (now (order .entry)))
-        (sessionOf n clauses (now (lits .entry)) (now (values .entry)) (now (levels .entry)) (now (reasons .entry)) (now (trail .entry)) (now (opened .entry)) (nexts (now (nodes .entry))) (prevs (now (nodes .entry))) (tss (now (nodes .entry))) s))
-        (sessionOf n clauses (now (lits .entry)) (now (values .entry)) (now (levels .entry)) (now (reasons .entry)) (now (trail .entry)) (now (opened .entry)) (nexts (now (nodes .entry))) (prevs (now (nodes .entry))) (tss (now (nodes .entry))) s)
-        (r .status)
-        (r .reply)
-        (sessionOf n clauses (now (lits .entry)) (now (values .exit)) (now (levels .exit)) (now (reasons .exit)) (now (trail .exit)) (now (opened .exit)) (nexts (now (nodes .exit))) (prevs (now (nodes .exit))) (tss (now (nodes .exit))) (r .state)) ⌝ }
-    ensures { λ r. ⌜ (now (stamps .exit) ≡ cleared (clears call (r .status)) (now (stamps .entry))) × (now (order .exit) ≡ cleared (clears call (r .status)) (now (order .entry))) ⌝ }
+    ensures { λ r.
+        let before = sessionOf n clauses (now (lits .entry)) (now (values .entry)) (now (levels .entry)) (now (reasons .entry)) (now (trail .entry)) (now (opened .entry)) (nexts (now (nodes .entry))) (prevs (now (nodes .entry))) (tss (now (nodes .entry))) s in
+        let after = sessionOf n clauses (now (lits .entry)) (now (values .exit)) (now (levels .exit)) (now (reasons .exit)) (now (trail .exit)) (now (opened .exit)) (nexts (now (nodes .exit))) (prevs (now (nodes .exit))) (tss (now (nodes .exit))) (r .state) in
+        let asked = asks call (now (vars .entry)) (now (stamps .entry)) (now (order .entry)) in
+        ⌜ Answered (entered n clauses (now (lits .entry)) literals (now (ends .entry)) asked before) before (r .status) (r .reply) after ⌝ }
+    ensures { λ r.
+        let used = clears call (r .status) in
+        ⌜ (now (stamps .exit) ≡ cleared used (now (stamps .entry))) × (now (order .exit) ≡ cleared used (now (order .entry))) ⌝ }
 {
     let k = room_for(nodes.len());
     let mut next = [0u32; ROOM];
