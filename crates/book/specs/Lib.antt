@@ -5,5 +5,6 @@ pub mod Book
 pub mod Letter
 pub mod Chooser
 pub mod Session
+pub mod Mapped
 pub mod Interleaved
 pub mod Claim

@@ -1,6 +1,5 @@
 -- A session: a trail and a chooser, and the eleven calls on it, with the refusals of document 01 that look at a call's arguments.
 use Prim.Native.Nat.{ℕ, _-_}
-use mathlib.Core.Path.{_≡_, refl}
 use mathlib.Core.Bool.{Bool, true, false, cond, not}
 use mathlib.Core.Option.{Option, none, some}
 use mathlib.Core.List.{List, [], _∷_}
@@ -39,19 +38,6 @@ logLine c x = record { call = c; status = status x; reply = reply x }
 abbrev pub mapped : {S T : Type 0} → (S → T) → Result S → Result T
 mapped f (done r s) = done r (f s)
 mapped f (refuse k) = refuse k
-
-module _ {S T : Type 0} (f : S → T) where
-  pub mapped-status : (x : Result S) → status (mapped f x) ≡ status x
-  mapped-status (done r s) = refl
-  mapped-status (refuse k) = refl
-
-  pub mapped-reply : (x : Result S) → reply (mapped f x) ≡ reply x
-  mapped-reply (done r s) = refl
-  mapped-reply (refuse k) = refl
-
-  pub mapped-leaves : (s : S) (x : Result S) → leaves (f s) (mapped f x) ≡ f (leaves s x)
-  mapped-leaves s (done r u) = refl
-  mapped-leaves s (refuse k) = refl
 
 -- refusal k, unless the test passes
 unfoldable pub need : {S : Type 0} → Bool → ℕ → Result S → Result S

@@ -13,7 +13,8 @@ use Rattle.choosers.specs.Heap.{heapOps}
 use Rattle.choosers.specs.List.{listOps}
 use Rattle.book.specs.Calls.{Call, bump, decay, setDecay, insert, switchOff, decide, enqueue, learnUnit, goBack, bumpReason, group}
 use Rattle.book.specs.Chooser.{Next, chose, nothing, stuck, Operations}
-use Rattle.book.specs.Session.{Result, done, refuse, status, reply, leaves, mapped, mapped-status, need, Session, tuned, decided, call}
+use Rattle.book.specs.Session.{Result, done, refuse, status, reply, leaves, mapped, need, Session, tuned, decided, call}
+use Rattle.book.specs.Mapped.{mapped-status}
 use Rattle.session.specs.Entry.{replyNumber}
 use Rattle.forms.specs.Text.{tab, newline, digits}
 use Rattle.forms.specs.TextLaws.{digits-two, digits-five, digits-room}

@@ -16,7 +16,8 @@ use Rattle.lit.specs.Numbers.{maxClauses, maxLiterals, badLine, badClauses}
 use Rattle.formula.specs.Clauses.{clauseFits, varsBelow}
 use Rattle.formula.specs.Good.{GoodClauses, clauses-facts}
 use Rattle.formula.specs.Adding.{withEnd, fits-added}
-use Rattle.book.specs.Session.{status, reply, leaves, mapped-leaves, need}
+use Rattle.book.specs.Session.{status, reply, leaves, need}
+use Rattle.book.specs.Mapped.{mapped-leaves}
 use Rattle.forms.specs.Letters.{clauseLetter}
 use Rattle.forms.specs.Text.{newline, find}
 use Rattle.forms.specs.Forms.{Mode, vsids, vmtf, beginsClause, codesIn, given, numbers}

@@ -8,7 +8,8 @@ use lib.ListN.{length}
 use Rattle.lit.specs.Numbers.{answerRoom}
 use Rattle.book.specs.Calls.{Call}
 use Rattle.book.specs.Chooser.{Operations}
-use Rattle.book.specs.Session.{Result, status, reply, leaves, mapped, mapped-status, mapped-reply, mapped-leaves, Session, call}
+use Rattle.book.specs.Session.{Result, status, reply, leaves, mapped, Session, call}
+use Rattle.book.specs.Mapped.{mapped-status, mapped-reply, mapped-leaves}
 use Rattle.session.specs.Entry.{Answered}
 use Rattle.forms.specs.Text.{written}
 use Rattle.forms.specs.Forms.{callIn}

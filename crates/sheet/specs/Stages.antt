@@ -25,6 +25,7 @@ unfoldable pub called : (n m : ℕ) (O : Operations) → Session n m O → Optio
 called n m O s none = refuse badLine
 called n m O s (some c) = call n m O s c
 
+-- a line of a session, and its result as one of the stage; of either mode
 abbrev callLine : (n m : ℕ) (O : Operations) → (Session n m O → Stage) → Session n m O → List ℕ → Result Stage
 callLine n m O stage s line = mapped stage (called n m O s (callIn line))
 

@@ -13,7 +13,8 @@ use Rattle.choosers.specs.Heap.{heapOps}
 use Rattle.choosers.specs.List.{listOps}
 use Rattle.book.specs.Calls.{Call, Line}
 use Rattle.book.specs.Chooser.{Operations}
-use Rattle.book.specs.Session.{Result, done, refuse, status, reply, leaves, logLine, mapped-status, mapped-reply, mapped-leaves, Session, fresh, call}
+use Rattle.book.specs.Session.{Result, done, refuse, status, reply, leaves, logLine, Session, fresh, call}
+use Rattle.book.specs.Mapped.{mapped-status, mapped-reply, mapped-leaves}
 use Rattle.book.specs.Claim.{log, Run, begin, step, run}
 use Rattle.forms.specs.Forms.{Mode, vsids, vmtf, Opening, callIn, codesIn, beginsClause, firstIn}
 use Rattle.sheet.specs.Sheet.{answerLine, callsOf, logged, sessionAnswers, ClauseList, chooserOf, added, clauseLines, listed, clauseAnswers, behindFirst, opening, fromFirst, answered}
