@@ -80,10 +80,12 @@ abbrev pub Passes : List Local → List Val → Type 0
 Passes [] vs = ⊥
 Passes (x ∷ ls) vs = Typed ls vs
 
+-- the first local at b, the others where l has them
 abbrev first : ℕ → (ℕ → ℕ) → ℕ → ℕ
 first b l zero = b
 first b l (suc n) = l n
 
+-- the types and locations of the locals from number p on
 module _ {M : Type 1} (𝓤 : URA M) (H : Heap 𝓤) where
   pub spot : (E : Env 𝓤 H) (p : ℕ) {L : Env 𝓤 H} → drop′ p E ≡ L → (j : ℕ) → spotOf 𝓤 H E (p + j) ≡ spotOf 𝓤 H L j
   spot E p e j = ap (λ (z : Ty × ℕ). (z .0, z .1, 0)) (sym (getD-drop p E j (noLocal 𝓤 H))) ∙ ap (λ (l : Env 𝓤 H). spotOf 𝓤 H l j) e
