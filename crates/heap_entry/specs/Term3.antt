@@ -1,11 +1,10 @@
 -- Term 3 in heap mode, on the entry points' own definition.
 use Prim.Native.Nat.{ℕ}
 use mathlib.Core.Path.{_≡_, refl, subst}
-use mathlib.Core.Bool.{Bool, true}
+use mathlib.Core.Bool.{true}
 use mathlib.Core.List.{List}
 use native.Mathlib.Omega.{arith}
 use lib.ListN.{length}
-use Rattle.vsids.specs.Vsids.{Vsids}
 use Rattle.choosers.specs.Heap.{heapOps, HeapOk, heap-ok, ok-heap}
 use Rattle.book.specs.Calls.{Call}
 use Rattle.book.specs.Session.{status, leaves, Session, call}

@@ -1,12 +1,10 @@
 -- Term 3 in list mode, on the entry points' own definition.
 use Prim.Native.Nat.{ℕ, _≤_}
 use mathlib.Core.Path.{_≡_, refl, subst}
-use mathlib.Core.Bool.{Bool}
 use mathlib.Core.List.{List}
 use native.Mathlib.Omega.{arith}
 use lib.ListN.{length}
 use Rattle.lit.specs.Numbers.{NONE, maxVars}
-use Rattle.vmtf.specs.Vmtf.{Vmtf}
 use Rattle.choosers.specs.List.{listOps, ListOk, list-chooser, list-ok, ok-list}
 use Rattle.book.specs.Calls.{Call}
 use Rattle.book.specs.Session.{status, leaves, Session, call}

@@ -15,7 +15,7 @@ use Rattle.lit.specs.Numbers.{NONE, unassigned}
 use Rattle.lit.specs.Lits.{index}
 use Rattle.trail.specs.Trail.{Trail, backsteps, closeLevels, rewind, howMany, backtrackTo, backtrackSafe, learnUnit}
 use Rattle.trail.specs.Good.{varAt, notAbove, GoodTrail}
-use Rattle.trail.specs.At.{valueAt, reasonAt, openedAt}
+use Rattle.trail.specs.At.{valueAt, openedAt}
 use Rattle.trail.specs.Laws.{enq-good}
 use Rattle.trail.specs.Undoing.{StackOf, Kept, stack, clean, kept-clean, backsteps-stack, close-stack, kept-kept, steps-kept, close-kept}
 

@@ -1,6 +1,6 @@
 -- Going back to level L leaves the records as they were just before the decision that opened level L+1, whatever was put on the
 -- trail or taken off it since, as long as it stayed above level L.
-use Prim.Native.Nat.{ℕ, _+_, _-_, _*_, _<_}
+use Prim.Native.Nat.{ℕ, _+_, _*_, _<_}
 use mathlib.Core.Path.{_≡_, refl, sym, ap, _∙_}
 use mathlib.Core.Logic.{_≢_, by-cases}
 use mathlib.Core.List.{List}

@@ -10,7 +10,7 @@ use lib.ListN.{getD, set}
 use Rattle.heap.specs.Heap.{parent}
 use Rattle.laws.specs.Tests.{cond-elim, not-true}
 use Rattle.vsids.specs.Vsids.{Vsids, places, before, isOpen, removeFirst, Found, chose, nothing, getNextOf, getNext}
-use Rattle.vsids.specs.Good.{GoodHeap, Chosen, Emptied, Right}
+use Rattle.vsids.specs.Good.{GoodHeap, Chosen, Right}
 use Rattle.heap.specs.Inverses.{remove-inverse}
 use Rattle.heap.specs.Orders.{remove-order, first}
 use Rattle.heap.specs.Members.{member, remove-member}

@@ -2,7 +2,7 @@
 use mathlib.Core.Path.{_≡_, refl, _∙_}
 use mathlib.Core.Bool.{Bool, true, false, _&&_}
 use mathlib.Core.List.{List}
-use Prim.Native.Nat.{ℕ, _≤_, _<_}
+use Prim.Native.Nat.{ℕ, _<_}
 use native.Mathlib.Decide.{ℕ-discrete}
 use native.Mathlib.Omega.{arith}
 use lib.Dec.{T, eqb}
@@ -15,7 +15,7 @@ use Rattle.activity.specs.Doubles.{zeroActivity, maxActivity}
 use Rattle.activity.specs.Step.{within, upright}
 use Rattle.activity.specs.Upright.{Upright, finite, infinite, number, le-inf, le-trans, lt-of-le, cross→le}
 use Rattle.activity.specs.Bounds.{Within, within-true, true-within, zero-within}
-use Rattle.heap.specs.Heap.{Places, comesFirst, parent, rises}
+use Rattle.heap.specs.Heap.{comesFirst, parent, rises}
 use Rattle.heap.specs.Walks.{rises-by, top-stays}
 use Rattle.vsids.specs.Vsids.{Vsids, places, before}
 use Rattle.vsids.specs.Check.{memberOk, placeOk, activityOk}

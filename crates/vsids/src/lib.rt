@@ -2,7 +2,6 @@
 use activity::LIMIT;
 use activity::Step;
 use activity::ZERO_ACTIVITY;
-use lit::NONE;
 use lit::UNASSIGNED;
 ghost use mathlib.Core.Path.{_≡_};
 ghost use mathlib.Core.List.{List};
@@ -13,7 +12,7 @@ ghost use lib.ListN.{length, getD, replicate};
 ghost use Rattle.lit.specs.Numbers.{maxVars};
 ghost use Rattle.lit.specs.Lits.{index};
 ghost use Rattle.activity.specs.Doubles.{zeroActivity};
-ghost use Rattle.heap.specs.Heap.{placesOf, comesFirst, inHeap};
+ghost use Rattle.heap.specs.Heap.{placesOf, inHeap};
 ghost use Rattle.heap.specs.Room.{Room, Placed};
 ghost use Rattle.vsids.specs.Vsids as spec;
 ghost use Rattle.vsids.specs.Vsids.{vsidsOf, foundOf};

@@ -1,6 +1,6 @@
 -- A heap that holds as many members as there are variables holds each of them: good places, then, make every position good. By the
 -- pigeonhole principle. Assumes nothing.
-use mathlib.Core.Path.{_≡_, sym, _∙_}
+use mathlib.Core.Path.{_≡_}
 use mathlib.Core.Bool.{true}
 use mathlib.Core.List.{List}
 use Prim.Native.Nat.{ℕ, _≤_, _<_}
