@@ -1,6 +1,7 @@
 -- The bytes of a call sheet that have a meaning, each named once: the letter of each call, of clause lines and of the first line, digits, the dash,
 -- and the words of the modes. `src/letters.rt` has them for code.
 use Prim.Native.Nat.{ℕ}
+use mathlib.Core.Path.{_≡_, refl}
 use mathlib.Core.List.{List, [], _∷_}
 
 -- 'Calls': b, y, w, i, o, g, e, u, k, r and f
@@ -67,3 +68,8 @@ digitA = 97
 
 abbrev pub digitF : ℕ
 digitF = 102
+
+-- So the bytes are, in this order: b, y, w, i, o, g, e, u, k, r, f; c, n; the dash; 0, 9, a, f
+pub letters-are : bumpLetter ∷ decayLetter ∷ setDecayLetter ∷ insertLetter ∷ switchOffLetter ∷ decideLetter ∷ enqueueLetter ∷ learnUnitLetter ∷ goBackLetter ∷ bumpReasonLetter ∷ groupLetter ∷ clauseLetter ∷ firstLetter ∷ dash ∷ digitZero ∷ digitNine ∷ digitA ∷ digitF ∷ []
+    ≡ 98 ∷ 121 ∷ 119 ∷ 105 ∷ 111 ∷ 103 ∷ 101 ∷ 117 ∷ 107 ∷ 114 ∷ 102 ∷ 99 ∷ 110 ∷ 45 ∷ 48 ∷ 57 ∷ 97 ∷ 102 ∷ []
+letters-are = refl
