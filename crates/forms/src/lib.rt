@@ -25,13 +25,13 @@ use lit::NONE;
 use session::Call;
 use table::BUMPS;
 use table::BUMPS_REASON;
-use table::CLAUSE;
 use table::DECAYS;
 use table::DECIDES;
 use table::ENQUEUES;
-use table::FIRST;
 use table::GOES_BACK;
 use table::INSERTS;
+use table::IS_CLAUSE;
+use table::IS_FIRST;
 use table::LEARNS_UNIT;
 use table::MOVES_GROUP;
 use table::SETS_DECAY;
@@ -69,7 +69,7 @@ pub fn begins_clause(line: &[u8]) -> bool
     if line.len() == 0 {
         return false;
     }
-    kind(line[0]) == CLAUSE
+    kind(line[0]) == IS_CLAUSE
 }
 
 // Whether the bytes of a field are these.
@@ -320,7 +320,7 @@ pub fn read_first(line: &[u8]) -> First
     if line.len() == 0 {
         return First::Bad;
     }
-    if kind(line[0]) != FIRST {
+    if kind(line[0]) != IS_FIRST {
         return First::Bad;
     }
     read_opening(line)

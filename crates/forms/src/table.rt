@@ -28,9 +28,9 @@ pub const BUMPS_REASON: u8 = 10;
 
 pub const MOVES_GROUP: u8 = 11;
 
-pub const CLAUSE: u8 = 12;
+pub const IS_CLAUSE: u8 = 12;
 
-pub const FIRST: u8 = 13;
+pub const IS_FIRST: u8 = 13;
 
 // The kind of a line by its first byte, one entry for each byte.
 const KINDS: [u8; 256] = [
@@ -133,7 +133,7 @@ const KINDS: [u8; 256] = [
     OTHER,
     OTHER,
     BUMPS, // b
-    CLAUSE, // c
+    IS_CLAUSE, // c
     OTHER,
     ENQUEUES, // e
     MOVES_GROUP, // f
@@ -144,7 +144,7 @@ const KINDS: [u8; 256] = [
     GOES_BACK, // k
     OTHER,
     OTHER,
-    FIRST, // n
+    IS_FIRST, // n
     SWITCHES_OFF, // o
     OTHER,
     OTHER,
