@@ -1,4 +1,4 @@
-// The entry point of a session's calls in list mode, with the list as a lent slice of nodes. It checks the memory that was lent, and asks nothing of its callers.
+// The entry points over nodes: those of list mode with the list as a lent slice of nodes. They check the memory that was lent, and ask nothing of their callers.
 ghost use mathlib.Core.Path.{_≡_};
 ghost use Rattle.node_entry.specs.Nodes.{nexts, prevs, tss};
 ghost use Rattle.session.specs.Asked.{asks};
