@@ -4,6 +4,7 @@ use mathlib.Core.Path.{_≡_, refl, ap, _∙_}
 use mathlib.Core.Bool.{Bool, true, _&&_, cond}
 use mathlib.Core.Option.{Option, none, some}
 use mathlib.Core.List.{List, [], _∷_, _++_}
+use native.Mathlib.Omega.{arith}
 use borrow.Author.Tests.{le-leb}
 use lib.Dec.{leb}
 use lib.ListN.{length, take, drop}
@@ -13,6 +14,7 @@ use Rattle.laws.specs.Tests.{and-both}
 use Rattle.lit.specs.Numbers.{maxVars}
 use Rattle.book.specs.Session.{Result, done, refuse}
 use Rattle.forms.specs.Forms.{Mode, vsids, vmtf, Opening, firstIn}
+use Rattle.desk.specs.Behind.{modeOf}
 
 -- how many positions a session over n variables needs
 abbrev pub needed : Mode → ℕ → ℕ
@@ -48,3 +50,7 @@ pub used-front : (o : Opening) {k : ℕ} (l p : List ℕ) → o .vars ≤ maxVar
 used-front o {k} l p few e lent same =
     let test = and-both (le-leb (o .vars) maxVars few) (rw e at (le-leb k (length l) lent)) in
     rw test (record { long = rejoined k l p same; same = rw (← e) (drop-at p (drop k l) k (same ∙ length-take-le k l lent)) })
+
+-- in heap mode those are one for each variable
+pub front-enough : {heap : Bool} {n k : ℕ} (l : List ℕ) → k ≡ needed (modeOf heap) n → k ≤ length l → heap ≡ true → n ≤ length (take k l)
+front-enough {n = n} {k = k} l e lent h = omega (arith, length-take-le k l lent, e ∙ ap (λ (b : Bool). needed (modeOf b) n) h)

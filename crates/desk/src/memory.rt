@@ -1,15 +1,15 @@
 // The lines of a call sheet behind the first: the clause lines, then the session's, in the mode that the first line names.
 ghost use mathlib.Core.Path.{_≡_};
-ghost use mathlib.Core.Bool.{Bool, true};
+ghost use mathlib.Core.Bool.{Bool, true, false};
 ghost use mathlib.Core.List.{[]};
 ghost use mathlib.Core.Option.{some};
-ghost use Prim.Native.Nat.{_≤_};
+ghost use Prim.Native.Nat.{_*_, _≤_};
 ghost use lib.ListN.{length};
 ghost use Rattle.lit.specs.Numbers as number;
 ghost use Rattle.formula.specs.Good.{GoodClauses};
 ghost use Rattle.sheet.specs.Stages.{reading, opened};
-ghost use Rattle.sheet.specs.Running.{Room, Holds, Ended};
-ghost use Rattle.desk.specs.Behind.{modeOf, openingAt, fewVars};
+ghost use Rattle.sheet.specs.Running.{linesFrom, nextClause, Room, Holds, Ended};
+ghost use Rattle.desk.specs.Behind.{short, modeOf, openingAt, fewVars};
 ghost use Rattle.desk.specs.Positions.{needed, usedBy, SameFrom};
 use lit::MAX_CLAUSES;
 use lit::MAX_LITERALS;
@@ -124,12 +124,8 @@ fn clauses_with(
     )
 }
 
-// A short clause list has at most so many literals, and so many clauses.
-const SHORT: usize = 256;
-
-// The lines behind the first where clause lines come next. On a short sheet the slices for clauses are short: a literal takes two bytes at
-// least, and so does a clause line.
-fn clause_lines_first(
+// The lines behind the first where no clause line comes next: the session's. The slices for clauses are not set up.
+fn without_clauses(
     sheet: &[u8],
     out: &mut [u8],
     positions: &mut [u32],
@@ -138,19 +134,17 @@ fn clause_lines_first(
     p: Place,
 ) -> usize
     requires { ⌜ Room (now sheet) p (now out) × (n ≤ number.maxVars) × (heap ≡ true → n ≤ length (now positions)) ⌝ }
+    requires { ⌜ nextClause (linesFrom (now sheet) (p .from)) ≡ false ⌝ }
     ensures { λ r. ⌜ Ended (now (sheet .entry)) p (reading (modeOf heap) n [] []) (now (out .entry)) r (now (out .exit)) ⌝ }
 {
-    if sheet.len() <= 2 * SHORT {
-        let mut lits = [0u32; SHORT];
-        let mut ends = [0u32; SHORT];
-        return clauses_with(sheet, out, positions, heap, n, &mut lits, &mut ends, p);
+    let none = [0u32; 0];
+    if n <= few_vars(heap) {
+        return few_lines(sheet, out, positions, heap, n, &none, &none, p);
     }
-    let mut lits = [0u32; MAX_LITERALS as usize];
-    let mut ends = [0u32; MAX_CLAUSES as usize];
-    clauses_with(sheet, out, positions, heap, n, &mut lits, &mut ends, p)
+    session_lines(sheet, out, positions, heap, n, &none, &none, p)
 }
 
-// The lines behind the first, in heap or in list mode. Without clause lines the slices for clauses are not set up.
+// The lines behind the first, in heap or in list mode.
 fn lines_behind(
     sheet: &[u8],
     out: &mut [u8],
@@ -163,19 +157,38 @@ fn lines_behind(
     ensures { λ r. ⌜ Ended (now (sheet .entry)) p (reading (modeOf heap) n [] []) (now (out .entry)) r (now (out .exit)) ⌝ }
 {
     if next_is_clause(sheet, p) {
-        return clause_lines_first(sheet, out, positions, heap, n, p);
+        let mut lits = [0u32; MAX_LITERALS as usize];
+        let mut ends = [0u32; MAX_CLAUSES as usize];
+        return clauses_with(sheet, out, positions, heap, n, &mut lits, &mut ends, p);
     }
-    let none = [0u32; 0];
-    if n <= few_vars(heap) {
-        return few_lines(sheet, out, positions, heap, n, &none, &none, p);
-    }
-    session_lines(sheet, out, positions, heap, n, &none, &none, p)
+    without_clauses(sheet, out, positions, heap, n, p)
 }
 
-// How many variables the shorter arrays of positions have room for.
-const FEW: u32 = 128;
+// A short sheet has at most so many literals, and so many clauses: a literal takes two bytes at least, and so does a clause line.
+const SHORT: usize = 256;
 
-const SOME: u32 = 320;
+// The same on a short sheet, where the slices for clauses are short.
+fn short_lines(
+    sheet: &[u8],
+    out: &mut [u8],
+    positions: &mut [u32],
+    heap: bool,
+    n: u32,
+    p: Place,
+) -> usize
+    requires { ⌜ Room (now sheet) p (now out) × (n ≤ number.maxVars) × (heap ≡ true → n ≤ length (now positions)) × (length (now sheet) ≤ 2 * short) ⌝ }
+    ensures { λ r. ⌜ Ended (now (sheet .entry)) p (reading (modeOf heap) n [] []) (now (out .entry)) r (now (out .exit)) ⌝ }
+{
+    if next_is_clause(sheet, p) {
+        let mut lits = [0u32; SHORT];
+        let mut ends = [0u32; SHORT];
+        return clauses_with(sheet, out, positions, heap, n, &mut lits, &mut ends, p);
+    }
+    without_clauses(sheet, out, positions, heap, n, p)
+}
+
+// How many variables the shorter array of positions has room for.
+const FEW: u32 = 320;
 
 // The lines behind the first, on positions set up for them.
 fn own_positions(sheet: &[u8], out: &mut [u8], heap: bool, n: u32, p: Place) -> usize
@@ -183,12 +196,10 @@ fn own_positions(sheet: &[u8], out: &mut [u8], heap: bool, n: u32, p: Place) -> 
     ensures { λ r. ⌜ Ended (now (sheet .entry)) p (reading (modeOf heap) n [] []) (now (out .entry)) r (now (out .exit)) ⌝ }
 {
     if n <= FEW {
-        let mut few = [NONE; FEW as usize];
-        return lines_behind(sheet, out, &mut few, heap, n, p);
-    }
-    if n <= SOME {
-        let mut some = [NONE; SOME as usize];
-        return lines_behind(sheet, out, &mut some, heap, n, p);
+        if sheet.len() <= 2 * SHORT {
+            let mut few = [NONE; FEW as usize];
+            return short_lines(sheet, out, &mut few, heap, n, p);
+        }
     }
     let mut all = [NONE; MAX_VARS as usize];
     lines_behind(sheet, out, &mut all, heap, n, p)
@@ -220,6 +231,9 @@ pub fn with_positions(
     let k = positions_needed(heap, n);
     if k > positions.len() {
         return own_positions(sheet, out, heap, n, p);
+    }
+    if sheet.len() <= 2 * SHORT {
+        return short_lines(sheet, out, &mut positions[..k], heap, n, p);
     }
     lines_behind(sheet, out, &mut positions[..k], heap, n, p)
 }

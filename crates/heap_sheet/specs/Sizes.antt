@@ -3,10 +3,7 @@ use Prim.Native.Nat.{ℕ, _+_}
 use Rattle.lit.specs.Numbers.{maxVars}
 
 abbrev pub few : ℕ
-few = 128
-
-abbrev pub some : ℕ
-some = 320
+few = 320
 
 abbrev pub many : ℕ
 many = 1152

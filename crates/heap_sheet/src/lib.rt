@@ -133,28 +133,30 @@ fn in_arrays(
 }
 
 // How many variables the shorter arrays of a session have room for: setting up long ones costs more than a short run.
-pub const FEW: u32 = 128;
-
-const SOME: u32 = 320;
+pub const FEW: u32 = 320;
 
 const MANY: u32 = 1152;
 
 // And the longest, for as many as there may be: a cache line more, so that the arrays do not all begin at the same place of the cache.
 const ALL: u32 = MAX_VARS + 16;
 
-// The rest of a run with few variables.
-fn in_few(
+// Does the lines from a place on in a session of few variables, and gives the place behind their answers. Without a line no session is made.
+// The positions are the heap's.
+pub fn rest_of_few(
     sheet: &[u8],
     out: &mut [u8],
     positions: &mut [u32],
     n: u32,
     lits: &[u32],
     ends: &[u32],
-    p: Place,
+    place: Place,
 ) -> usize
-    requires { ⌜ Room (now sheet) p (now out) × (n ≤ size.few) × GoodClauses n (now lits) (now ends) × (n ≤ length (now positions)) ⌝ }
-    ensures { λ r. ⌜ Ended (now (sheet .entry)) p (spec.opened vsids n (now (lits .entry)) (now (ends .entry))) (now (out .entry)) r (now (out .exit)) ⌝ }
+    requires { ⌜ Room (now sheet) place (now out) × (n ≤ size.few) × GoodClauses n (now lits) (now ends) × (n ≤ length (now positions)) ⌝ }
+    ensures { λ r. ⌜ Ended (now (sheet .entry)) place (spec.opened vsids n (now (lits .entry)) (now (ends .entry))) (now (out .entry)) r (now (out .exit)) ⌝ }
 {
+    if place.left == 0 {
+        return place.at;
+    }
     let mut values = [UNASSIGNED; FEW as usize];
     let mut levels = [NONE; FEW as usize];
     let mut reasons = [NONE; FEW as usize];
@@ -178,51 +180,11 @@ fn in_few(
         &mut activity,
         &mut heap,
         &mut decision,
-        p,
+        place,
     )
 }
 
-// The same with some.
-fn in_some(
-    sheet: &[u8],
-    out: &mut [u8],
-    positions: &mut [u32],
-    n: u32,
-    lits: &[u32],
-    ends: &[u32],
-    p: Place,
-) -> usize
-    requires { ⌜ Room (now sheet) p (now out) × (n ≤ size.some) × GoodClauses n (now lits) (now ends) × (n ≤ length (now positions)) ⌝ }
-    ensures { λ r. ⌜ Ended (now (sheet .entry)) p (spec.opened vsids n (now (lits .entry)) (now (ends .entry))) (now (out .entry)) r (now (out .exit)) ⌝ }
-{
-    let mut values = [UNASSIGNED; SOME as usize];
-    let mut levels = [NONE; SOME as usize];
-    let mut reasons = [NONE; SOME as usize];
-    let mut trail = [NONE; SOME as usize];
-    let mut opened = [NONE; SOME as usize];
-    let mut activity = [ZERO_ACTIVITY; SOME as usize];
-    let mut heap = [NONE; SOME as usize];
-    let mut decision = [true; SOME as usize];
-    in_arrays(
-        sheet,
-        out,
-        positions,
-        n,
-        lits,
-        ends,
-        &mut values,
-        &mut levels,
-        &mut reasons,
-        &mut trail,
-        &mut opened,
-        &mut activity,
-        &mut heap,
-        &mut decision,
-        p,
-    )
-}
-
-// The same with many.
+// The rest of a run with many variables.
 fn in_many(
     sheet: &[u8],
     out: &mut [u8],
@@ -262,8 +224,8 @@ fn in_many(
     )
 }
 
-// The same with as many as there may be.
-fn in_all(
+// The same with any number of variables.
+pub fn rest(
     sheet: &[u8],
     out: &mut [u8],
     positions: &mut [u32],
@@ -275,6 +237,12 @@ fn in_all(
     requires { ⌜ Room (now sheet) p (now out) × (n ≤ number.maxVars) × GoodClauses n (now lits) (now ends) × (n ≤ length (now positions)) ⌝ }
     ensures { λ r. ⌜ Ended (now (sheet .entry)) p (spec.opened vsids n (now (lits .entry)) (now (ends .entry))) (now (out .entry)) r (now (out .exit)) ⌝ }
 {
+    if p.left == 0 {
+        return p.at;
+    }
+    if n <= MANY {
+        return in_many(sheet, out, positions, n, lits, ends, p);
+    }
     let mut values = [UNASSIGNED; ALL as usize];
     let mut levels = [NONE; ALL as usize];
     let mut reasons = [NONE; ALL as usize];
@@ -300,52 +268,4 @@ fn in_all(
         &mut decision,
         p,
     )
-}
-
-// Does the lines from a place on in a session of few variables, and gives the place behind their answers. Without a line no session is made.
-// The positions are the heap's.
-pub fn rest_of_few(
-    sheet: &[u8],
-    out: &mut [u8],
-    positions: &mut [u32],
-    n: u32,
-    lits: &[u32],
-    ends: &[u32],
-    place: Place,
-) -> usize
-    requires { ⌜ Room (now sheet) place (now out) × (n ≤ size.few) × GoodClauses n (now lits) (now ends) × (n ≤ length (now positions)) ⌝ }
-    ensures { λ r. ⌜ Ended (now (sheet .entry)) place (spec.opened vsids n (now (lits .entry)) (now (ends .entry))) (now (out .entry)) r (now (out .exit)) ⌝ }
-{
-    if place.left == 0 {
-        return place.at;
-    }
-    in_few(sheet, out, positions, n, lits, ends, place)
-}
-
-// The same with any number of variables.
-pub fn rest(
-    sheet: &[u8],
-    out: &mut [u8],
-    positions: &mut [u32],
-    n: u32,
-    lits: &[u32],
-    ends: &[u32],
-    p: Place,
-) -> usize
-    requires { ⌜ Room (now sheet) p (now out) × (n ≤ number.maxVars) × GoodClauses n (now lits) (now ends) × (n ≤ length (now positions)) ⌝ }
-    ensures { λ r. ⌜ Ended (now (sheet .entry)) p (spec.opened vsids n (now (lits .entry)) (now (ends .entry))) (now (out .entry)) r (now (out .exit)) ⌝ }
-{
-    if p.left == 0 {
-        return p.at;
-    }
-    if n <= FEW {
-        return in_few(sheet, out, positions, n, lits, ends, p);
-    }
-    if n <= SOME {
-        return in_some(sheet, out, positions, n, lits, ends, p);
-    }
-    if n <= MANY {
-        return in_many(sheet, out, positions, n, lits, ends, p);
-    }
-    in_all(sheet, out, positions, n, lits, ends, p)
 }

@@ -3,10 +3,7 @@ use Prim.Native.Nat.{ℕ, _+_}
 use Rattle.lit.specs.Numbers.{maxVars}
 
 abbrev pub few : ℕ
-few = 32
-
-abbrev pub some : ℕ
-some = 256
+few = 128
 
 -- and the longest
 abbrev pub all : ℕ

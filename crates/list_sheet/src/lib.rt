@@ -168,18 +168,26 @@ fn in_arrays(
 }
 
 // How many variables the shorter arrays of a session have room for: setting up long ones costs more than a short run.
-pub const FEW: u32 = 32;
-
-const SOME: u32 = 256;
+pub const FEW: u32 = 128;
 
 // And the longest, for as many as there may be: a cache line more, so that the arrays do not all begin at the same place of the cache.
 const ALL: u32 = MAX_VARS + 16;
 
-// The rest of a run with few variables.
-fn in_few(sheet: &[u8], out: &mut [u8], n: u32, lits: &[u32], ends: &[u32], p: Place) -> usize
-    requires { ⌜ Room (now sheet) p (now out) × (n ≤ size.few) × GoodClauses n (now lits) (now ends) ⌝ }
-    ensures { λ r. ⌜ Ended (now (sheet .entry)) p (spec.opened vmtf n (now (lits .entry)) (now (ends .entry))) (now (out .entry)) r (now (out .exit)) ⌝ }
+// Does the lines from a place on in a session of few variables, and gives the place behind their answers. Without a line no session is made.
+pub fn rest_of_few(
+    sheet: &[u8],
+    out: &mut [u8],
+    n: u32,
+    lits: &[u32],
+    ends: &[u32],
+    place: Place,
+) -> usize
+    requires { ⌜ Room (now sheet) place (now out) × (n ≤ size.few) × GoodClauses n (now lits) (now ends) ⌝ }
+    ensures { λ r. ⌜ Ended (now (sheet .entry)) place (spec.opened vmtf n (now (lits .entry)) (now (ends .entry))) (now (out .entry)) r (now (out .exit)) ⌝ }
 {
+    if place.left == 0 {
+        return place.at;
+    }
     let mut values = [UNASSIGNED; FEW as usize];
     let mut levels = [NONE; FEW as usize];
     let mut reasons = [NONE; FEW as usize];
@@ -202,46 +210,18 @@ fn in_few(sheet: &[u8], out: &mut [u8], n: u32, lits: &[u32], ends: &[u32], p: P
         &mut next,
         &mut prev,
         &mut ts,
-        p,
+        place,
     )
 }
 
-// The same with some.
-fn in_some(sheet: &[u8], out: &mut [u8], n: u32, lits: &[u32], ends: &[u32], p: Place) -> usize
-    requires { ⌜ Room (now sheet) p (now out) × (n ≤ size.some) × GoodClauses n (now lits) (now ends) ⌝ }
-    ensures { λ r. ⌜ Ended (now (sheet .entry)) p (spec.opened vmtf n (now (lits .entry)) (now (ends .entry))) (now (out .entry)) r (now (out .exit)) ⌝ }
-{
-    let mut values = [UNASSIGNED; SOME as usize];
-    let mut levels = [NONE; SOME as usize];
-    let mut reasons = [NONE; SOME as usize];
-    let mut trail = [NONE; SOME as usize];
-    let mut opened = [NONE; SOME as usize];
-    let mut next = [NONE; SOME as usize];
-    let mut prev = [NONE; SOME as usize];
-    let mut ts = [0u64; SOME as usize];
-    in_arrays(
-        sheet,
-        out,
-        n,
-        lits,
-        ends,
-        &mut values,
-        &mut levels,
-        &mut reasons,
-        &mut trail,
-        &mut opened,
-        &mut next,
-        &mut prev,
-        &mut ts,
-        p,
-    )
-}
-
-// The same with as many as there may be.
-fn in_all(sheet: &[u8], out: &mut [u8], n: u32, lits: &[u32], ends: &[u32], p: Place) -> usize
+// The same with any number of variables.
+pub fn rest(sheet: &[u8], out: &mut [u8], n: u32, lits: &[u32], ends: &[u32], p: Place) -> usize
     requires { ⌜ Room (now sheet) p (now out) × (n ≤ number.maxVars) × GoodClauses n (now lits) (now ends) ⌝ }
     ensures { λ r. ⌜ Ended (now (sheet .entry)) p (spec.opened vmtf n (now (lits .entry)) (now (ends .entry))) (now (out .entry)) r (now (out .exit)) ⌝ }
 {
+    if p.left == 0 {
+        return p.at;
+    }
     let mut values = [UNASSIGNED; ALL as usize];
     let mut levels = [NONE; ALL as usize];
     let mut reasons = [NONE; ALL as usize];
@@ -266,39 +246,4 @@ fn in_all(sheet: &[u8], out: &mut [u8], n: u32, lits: &[u32], ends: &[u32], p: P
         &mut ts,
         p,
     )
-}
-
-// Does the lines from a place on in a session of few variables, and gives the place behind their answers. Without a line no session is made.
-pub fn rest_of_few(
-    sheet: &[u8],
-    out: &mut [u8],
-    n: u32,
-    lits: &[u32],
-    ends: &[u32],
-    place: Place,
-) -> usize
-    requires { ⌜ Room (now sheet) place (now out) × (n ≤ size.few) × GoodClauses n (now lits) (now ends) ⌝ }
-    ensures { λ r. ⌜ Ended (now (sheet .entry)) place (spec.opened vmtf n (now (lits .entry)) (now (ends .entry))) (now (out .entry)) r (now (out .exit)) ⌝ }
-{
-    if place.left == 0 {
-        return place.at;
-    }
-    in_few(sheet, out, n, lits, ends, place)
-}
-
-// The same with any number of variables.
-pub fn rest(sheet: &[u8], out: &mut [u8], n: u32, lits: &[u32], ends: &[u32], p: Place) -> usize
-    requires { ⌜ Room (now sheet) p (now out) × (n ≤ number.maxVars) × GoodClauses n (now lits) (now ends) ⌝ }
-    ensures { λ r. ⌜ Ended (now (sheet .entry)) p (spec.opened vmtf n (now (lits .entry)) (now (ends .entry))) (now (out .entry)) r (now (out .exit)) ⌝ }
-{
-    if p.left == 0 {
-        return p.at;
-    }
-    if n <= FEW {
-        return in_few(sheet, out, n, lits, ends, p);
-    }
-    if n <= SOME {
-        return in_some(sheet, out, n, lits, ends, p);
-    }
-    in_all(sheet, out, n, lits, ends, p)
 }

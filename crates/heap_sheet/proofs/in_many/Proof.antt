@@ -1,4 +1,4 @@
--- `heap_rest::in_many` meets its contract: the arrays have room for n variables, and are as they were set up.
+-- `heap_sheet::in_many` meets its contract: the arrays have room for n variables, and are as they were set up.
 use mathlib.Core.Path.{refl}
 use native.Mathlib.Omega.{arith}
 use borrow.Author.Needs.{needs}
@@ -8,7 +8,7 @@ use Rattle.heap_sheet.proofs.in_many.Statement.{statement}
 use Rattle.heap_sheet.proofs.in_many.Tie as tie
 
 in-arrays-requires : tie.Need-in-arrays-requires
-in-arrays-requires c κs = let s = c .before .before .before .before .before .before .before .before .before .before .before .before .before .before .before in ((s .pre .0, omega (arith, s .pre .1), s .pre .2, s .pre .3), blank many (s .pre .1))
+in-arrays-requires c κs = let s = c .before .before .before .before .before .before .before .before .before .before .before .before .before .before .before in ((s .pre .0, omega (arith, s .pre .1), s .pre .2, s .pre .3), blank many (omega (arith, s .pre .1)))
 
 pub in-many-spec : {M : Type 1} → statement M
 in-many-spec =

@@ -1,23 +1,34 @@
--- `list_rest::rest` meets its contract: with no line left the run has ended; else the session is made in arrays that its variables fit.
-use Rattle.sheet.specs.SessionLines.{nothing-left}
+-- `list_sheet::rest` meets its contract: without a line the run has ended; else the arrays have room for n variables.
+use mathlib.Core.Path.{refl}
+use native.Mathlib.Omega.{arith}
 use borrow.Author.Needs.{needs}
+use Rattle.forms.specs.Forms.{vmtf}
+use Rattle.sheet.specs.Stages.{opened}
+use Rattle.sheet.specs.SessionLines.{nothing-left}
+use Rattle.list_sheet.specs.Sizes.{all}
+use Rattle.list_sheet.specs.Start.{room-in}
 use Rattle.list_sheet.proofs.rest.Statement.{statement}
 use Rattle.list_sheet.proofs.rest.Tie as tie
 
 returns : tie.Need-returns
-returns c = nothing-left _ (c .before .before .before .before .before .before .pre .0) (c .if1 .taken)
+returns c = let s = c .before .before .before .before .before .before in nothing-left (opened vmtf (s .args .n) (s .args .lits .now) (s .args .ends .now)) (s .pre .0) (c .if1 .taken)
+
+in-arrays-requires : tie.Need-in-arrays-requires
+in-arrays-requires c κs = let s = c .before .before .before .before .before .before .before .before .before .before .before .before .before .before .before in ((s .pre .0, omega (arith, s .pre .1), s .pre .2), room-in all (omega (arith, s .pre .1)))
 
 pub rest-spec : {M : Type 1} → statement M
 rest-spec =
     tie.close
     (tie.spec
     returns
-    (λ c κs. search needs)
-    (λ c. search needs)
-    (λ c. search needs)
-    (λ c κs. search needs)
-    (λ c. search needs)
-    (λ c. search needs)
-    (λ c κs. search needs)
+    (λ c. refl)
+    (λ c. refl)
+    (λ c. refl)
+    (λ c. refl)
+    (λ c. refl)
+    (λ c. refl)
+    (λ c. refl)
+    (λ c. refl)
+    in-arrays-requires
     (λ c. search needs)
     (λ c. search needs))

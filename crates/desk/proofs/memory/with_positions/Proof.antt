@@ -1,30 +1,35 @@
 -- `desk::memory::with_positions` meets its contract: of the lent positions the session gets those that it needs, and the others stay as they were.
-use mathlib.Core.Path.{sym, ap, _∙_}
-use mathlib.Core.Bool.{Bool}
-use native.Mathlib.Omega.{arith}
+use mathlib.Core.Path.{sym}
 use lib.Seq.{length-take-le}
-use Rattle.desk.specs.Behind.{modeOf, openingAt}
-use Rattle.desk.specs.Positions.{needed, used-front}
+use Rattle.desk.specs.Behind.{openingAt}
+use Rattle.desk.specs.Positions.{used-front, front-enough}
 use borrow.Author.Needs.{needs}
 use Rattle.desk.proofs.memory.with_positions.Statement.{statement}
 use Rattle.desk.proofs.memory.with_positions.Tie as tie
 
-slice-aggregate-lines-behind : tie.Need-slice-aggregate-lines-behind
-slice-aggregate-lines-behind c = sym (length-take-le (c .before .before .before .positions-needed .result) (c .before .before .before .before .before .before .before .args .positions .now) (c .before .before .if1 .left))
+slice-aggregate-short-lines : tie.Need-slice-aggregate-short-lines
+slice-aggregate-short-lines c = sym (length-take-le (c .before .before .before .before .positions-needed .result) (c .before .before .before .before .before .before .before .before .args .positions .now) (c .before .before .before .if1 .left))
 
-lines-behind-requires : tie.Need-lines-behind-requires
-lines-behind-requires c κs =
-    let s = c .before .before .before .before .before .before .before in
-    let k = c .before .before .before .positions-needed in
-    let long = length-take-le (k .result) (s .args .positions .now) (c .before .before .if1 .left) in
-    (s .pre .0, s .pre .1, λ heap. omega (arith, long, k .ensures ∙ ap (λ (b : Bool). needed (modeOf b) (s .args .n)) heap))
+short-lines-requires : tie.Need-short-lines-requires
+short-lines-requires c κs = let s = c .before .before .before .before .before .before .before .before in (s .pre .0, s .pre .1, front-enough (s .args .positions .now) (c .before .before .before .before .positions-needed .ensures) (c .before .before .before .if1 .left), c .before .before .if2 .taken)
 
 returns-2 : tie.Need-returns-2
 returns-2 c =
-    let s = c .before .before .before .before .before .before .before .before .before .before .before .before in
-    let k = c .before .before .before .before .before .before .before .before .positions-needed in
+    let s = c .before .before .before .before .before .before .before .before .before .before .before .before .before in
+    let l = c .before .before .before .before .short-lines in
+    (l .ensures, used-front (openingAt (s .args .heap) (s .args .n)) (s .args .positions .now) (l .last .1 .1 .0) (s .pre .1) (c .before .before .before .before .before .before .before .before .before .positions-needed .ensures) (c .before .before .before .before .before .before .before .before .if1 .left) (l .kept .1 .1 .0))
+
+slice-aggregate-lines-behind : tie.Need-slice-aggregate-lines-behind
+slice-aggregate-lines-behind c = sym (length-take-le (c .before .before .before .before .positions-needed .result) (c .before .before .before .before .before .before .before .before .args .positions .now) (c .before .before .before .if1 .left))
+
+lines-behind-requires : tie.Need-lines-behind-requires
+lines-behind-requires c κs = let s = c .before .before .before .before .before .before .before .before in (s .pre .0, s .pre .1, front-enough (s .args .positions .now) (c .before .before .before .before .positions-needed .ensures) (c .before .before .before .if1 .left))
+
+returns-3 : tie.Need-returns-3
+returns-3 c =
+    let s = c .before .before .before .before .before .before .before .before .before .before .before .before .before in
     let l = c .before .before .before .before .lines-behind in
-    (l .ensures, used-front (openingAt (s .args .heap) (s .args .n)) (s .args .positions .now) (l .last .1 .1 .0) (s .pre .1) (k .ensures) (c .before .before .before .before .before .before .before .if1 .left) (l .kept .1 .1 .0))
+    (l .ensures, used-front (openingAt (s .args .heap) (s .args .n)) (s .args .positions .now) (l .last .1 .1 .0) (s .pre .1) (c .before .before .before .before .before .before .before .before .before .positions-needed .ensures) (c .before .before .before .before .before .before .before .before .if1 .left) (l .kept .1 .1 .0))
 
 pub with-positions-spec : {M : Type 1} → statement M
 with-positions-spec =
@@ -35,8 +40,15 @@ with-positions-spec =
     (λ c. search needs)
     (λ c. search needs)
     (λ c. search needs)
+    (λ c. search needs)
+    slice-aggregate-short-lines
+    short-lines-requires
+    (λ c. search needs)
+    (λ c. search needs)
+    returns-2
+    (λ c. search needs)
     slice-aggregate-lines-behind
     lines-behind-requires
     (λ c. search needs)
     (λ c. search needs)
-    returns-2)
+    returns-3)
