@@ -1,5 +1,5 @@
 -- A call sheet, as a host sees it.
 pub mod Ran
-pub mod Behind
-pub mod First
+pub mod Memory
+pub mod Opening
 pub mod Positions

@@ -16,7 +16,7 @@ use Rattle.sheet.specs.Sheet.{answered, ran, result}
 use Rattle.sheet.specs.Writing.{Wrote}
 use Rattle.sheet.specs.Bounds.{answered-short}
 use Rattle.sheet.specs.Running.{Room}
-use Rattle.desk.specs.First.{atFirst}
+use Rattle.desk.specs.Opening.{atFirst}
 use Rattle.desk.specs.Positions.{used, usedOn, SameFrom, untouched}
 
 -- what the host gets and the buffer are those of a run that comes to x

@@ -9,7 +9,7 @@ ghost use Rattle.lit.specs.Numbers as number;
 ghost use Rattle.formula.specs.Good.{GoodClauses};
 ghost use Rattle.sheet.specs.Stages.{reading, opened};
 ghost use Rattle.sheet.specs.Running.{linesFrom, nextClause, Room, Holds, Ended};
-ghost use Rattle.desk.specs.Behind.{short, modeOf, openingAt, fewVars};
+ghost use Rattle.desk.specs.Memory.{short, modeOf, openingAt, fewVars};
 ghost use Rattle.desk.specs.Positions.{needed, usedBy, SameFrom};
 use lit::MAX_CLAUSES;
 use lit::MAX_LITERALS;
@@ -35,9 +35,9 @@ fn session_lines(
     ensures { λ r. ⌜ Ended (now (sheet .entry)) p (opened (modeOf heap) n (now (lits .entry)) (now (ends .entry))) (now (out .entry)) r (now (out .exit)) ⌝ }
 {
     if heap {
-        return heap_sheet::rest(sheet, out, positions, n, lits, ends, p);
+        return heap_sheet::answer_lines(sheet, out, positions, n, lits, ends, p);
     }
-    list_sheet::rest(sheet, out, n, lits, ends, p)
+    list_sheet::answer_lines(sheet, out, n, lits, ends, p)
 }
 
 // How many variables are few in heap mode, and in list mode.
@@ -65,9 +65,9 @@ fn few_lines(
     ensures { λ r. ⌜ Ended (now (sheet .entry)) p (opened (modeOf heap) n (now (lits .entry)) (now (ends .entry))) (now (out .entry)) r (now (out .exit)) ⌝ }
 {
     if heap {
-        return heap_sheet::rest_of_few(sheet, out, positions, n, lits, ends, p);
+        return heap_sheet::answer_few(sheet, out, positions, n, lits, ends, p);
     }
-    list_sheet::rest_of_few(sheet, out, n, lits, ends, p)
+    list_sheet::answer_few(sheet, out, n, lits, ends, p)
 }
 
 // The clause lines, with slices for their clauses, then the session's.
@@ -145,7 +145,7 @@ fn without_clauses(
 }
 
 // The lines behind the first, in heap or in list mode.
-fn lines_behind(
+fn sheet_lines(
     sheet: &[u8],
     out: &mut [u8],
     positions: &mut [u32],
@@ -202,7 +202,7 @@ fn own_positions(sheet: &[u8], out: &mut [u8], heap: bool, n: u32, p: Place) -> 
         }
     }
     let mut all = [NONE; MAX_VARS as usize];
-    lines_behind(sheet, out, &mut all, heap, n, p)
+    sheet_lines(sheet, out, &mut all, heap, n, p)
 }
 
 // How many positions a session needs: one for each variable in heap mode, none in list mode.
@@ -235,5 +235,5 @@ pub fn with_positions(
     if sheet.len() <= 2 * SHORT {
         return short_lines(sheet, out, &mut positions[..k], heap, n, p);
     }
-    lines_behind(sheet, out, &mut positions[..k], heap, n, p)
+    sheet_lines(sheet, out, &mut positions[..k], heap, n, p)
 }

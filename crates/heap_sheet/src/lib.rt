@@ -1,4 +1,4 @@
-// The rest of a run in heap mode, once the clause lines are read: the session is made fresh and checked once, and its lines are done.
+// The lines of a session in heap mode on a sheet, once the clause lines are read: the session is made fresh and checked once, and its lines are done.
 ghost use mathlib.Core.Path.{_≡_};
 ghost use mathlib.Core.Bool.{true};
 ghost use Prim.Native.Nat.{_≤_};
@@ -27,7 +27,7 @@ pub mod run;
 
 // Does the lines of a session from a fresh one on and answers them, and gives the place behind the answers. The memory is fresh but for the
 // members and their positions.
-fn heap_session(
+fn from_fresh(
     sheet: &[u8],
     out: &mut [u8],
     n: u32,
@@ -113,7 +113,7 @@ fn in_arrays(
     ensures { λ r. ⌜ Ended (now (sheet .entry)) p (spec.opened vsids n (now (lits .entry)) (now (ends .entry))) (now (out .entry)) r (now (out .exit)) ⌝ }
 {
     let k = n as usize;
-    heap_session(
+    from_fresh(
         sheet,
         out,
         n,
@@ -142,7 +142,7 @@ const ALL: u32 = MAX_VARS + 16;
 
 // Does the lines from a place on in a session of few variables, and gives the place behind their answers. Without a line no session is made.
 // The positions are the heap's.
-pub fn rest_of_few(
+pub fn answer_few(
     sheet: &[u8],
     out: &mut [u8],
     positions: &mut [u32],
@@ -184,7 +184,7 @@ pub fn rest_of_few(
     )
 }
 
-// The rest of a run with many variables.
+// The same with many variables.
 fn in_many(
     sheet: &[u8],
     out: &mut [u8],
@@ -225,7 +225,7 @@ fn in_many(
 }
 
 // The same with any number of variables.
-pub fn rest(
+pub fn answer_lines(
     sheet: &[u8],
     out: &mut [u8],
     positions: &mut [u32],

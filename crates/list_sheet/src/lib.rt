@@ -1,4 +1,4 @@
-// The rest of a run in list mode, once the clause lines are read: the session is made fresh and checked once, and its lines are done.
+// The lines of a session in list mode on a sheet, once the clause lines are read: the session is made fresh and checked once, and its lines are done.
 ghost use mathlib.Core.Path.{_≡_};
 ghost use mathlib.Core.Bool.{true};
 ghost use Prim.Native.Nat.{_≤_};
@@ -73,7 +73,7 @@ fn start(
 }
 
 // Does the lines of a session from a fresh one on and answers them, and gives the place behind the answers.
-fn list_session(
+fn from_fresh(
     sheet: &[u8],
     out: &mut [u8],
     n: u32,
@@ -149,7 +149,7 @@ fn in_arrays(
     ensures { λ r. ⌜ Ended (now (sheet .entry)) p (spec.opened vmtf n (now (lits .entry)) (now (ends .entry))) (now (out .entry)) r (now (out .exit)) ⌝ }
 {
     let k = n as usize;
-    list_session(
+    from_fresh(
         sheet,
         out,
         n,
@@ -174,7 +174,7 @@ pub const FEW: u32 = 128;
 const ALL: u32 = MAX_VARS + 16;
 
 // Does the lines from a place on in a session of few variables, and gives the place behind their answers. Without a line no session is made.
-pub fn rest_of_few(
+pub fn answer_few(
     sheet: &[u8],
     out: &mut [u8],
     n: u32,
@@ -215,7 +215,14 @@ pub fn rest_of_few(
 }
 
 // The same with any number of variables.
-pub fn rest(sheet: &[u8], out: &mut [u8], n: u32, lits: &[u32], ends: &[u32], p: Place) -> usize
+pub fn answer_lines(
+    sheet: &[u8],
+    out: &mut [u8],
+    n: u32,
+    lits: &[u32],
+    ends: &[u32],
+    p: Place,
+) -> usize
     requires { ⌜ Room (now sheet) p (now out) × (n ≤ number.maxVars) × GoodClauses n (now lits) (now ends) ⌝ }
     ensures { λ r. ⌜ Ended (now (sheet .entry)) p (spec.opened vmtf n (now (lits .entry)) (now (ends .entry))) (now (out .entry)) r (now (out .exit)) ⌝ }
 {

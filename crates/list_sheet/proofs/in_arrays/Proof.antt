@@ -1,12 +1,12 @@
--- `list_rest::in_arrays` meets its contract: the parts of the arrays that are lent have n elements.
+-- `list_sheet::in_arrays` meets its contract: the parts of the arrays that are lent have n elements.
 use mathlib.Core.Path.{sym}
 use lib.Seq.{length-take-le}
 use Rattle.laws.specs.Parts.{rejoined}
 use Rattle.list_sheet.proofs.in_arrays.Statement.{statement}
 use Rattle.list_sheet.proofs.in_arrays.Tie as tie
 
-list-session-requires : tie.Need-list-session-requires
-list-session-requires c κs =
+from-fresh-requires : tie.Need-from-fresh-requires
+from-fresh-requires c κs =
     let s = c .before .before .before .before .before .before .before .before .before .before .before .before .before .before .before .before .before .before .before .before .before in
     let n = s .args .n in
     let r = s .pre .1 in (
@@ -45,14 +45,14 @@ in-arrays-spec =
     (λ c. let s = c .before .before .before .before .before .before .before .before .before .before .before .before .before .before .before .before .before .before .before .before in sym (length-take-le (s .args .n) _ (s .pre .1 .prev-room)))
     (λ c. c .before .before .before .before .before .before .before .before .before .before .before .before .before .before .before .before .before .before .before .before .pre .1 .ts-room)
     (λ c. let s = c .before .before .before .before .before .before .before .before .before .before .before .before .before .before .before .before .before .before .before .before .before in sym (length-take-le (s .args .n) _ (s .pre .1 .ts-room)))
-    list-session-requires
-    (λ c. c .before .before .before .before .before .before .before .before .before .before .before .before .before .before .before .before .before .before .list-session .kept .1 .0)
-    (λ c. let s = c .before .before .before .before .before .before .before .before .before .before .before .before .before .before .before .before .before .before .before .before .before .before .before .before .before .before .before .before .before .before .before .before .before .before .before .before .before .before .before .before in rejoined (s .args .n) (s .args .values .now) (c .before .before .before .before .before .before .before .before .before .before .before .before .before .before .before .before .before .before .list-session .last .1 .1 .1 .1 .1 .0) (c .before .before .before .before .before .before .before .before .before .before .before .before .before .before .before .before .before .before .list-session .kept .1 .1 .1 .1 .1 .0))
-    (λ c. let s = c .before .before .before .before .before .before .before .before .before .before .before .before .before .before .before .before .before .before .before .before .before .before .before .before .before .before .before .before .before .before .before .before .before .before .before .before .before .before .before .before in rejoined (s .args .n) (s .args .levels .now) (c .before .before .before .before .before .before .before .before .before .before .before .before .before .before .before .before .before .before .list-session .last .1 .1 .1 .1 .1 .1 .0) (c .before .before .before .before .before .before .before .before .before .before .before .before .before .before .before .before .before .before .list-session .kept .1 .1 .1 .1 .1 .1 .0))
-    (λ c. let s = c .before .before .before .before .before .before .before .before .before .before .before .before .before .before .before .before .before .before .before .before .before .before .before .before .before .before .before .before .before .before .before .before .before .before .before .before .before .before .before .before in rejoined (s .args .n) (s .args .reasons .now) (c .before .before .before .before .before .before .before .before .before .before .before .before .before .before .before .before .before .before .list-session .last .1 .1 .1 .1 .1 .1 .1 .0) (c .before .before .before .before .before .before .before .before .before .before .before .before .before .before .before .before .before .before .list-session .kept .1 .1 .1 .1 .1 .1 .1 .0))
-    (λ c. let s = c .before .before .before .before .before .before .before .before .before .before .before .before .before .before .before .before .before .before .before .before .before .before .before .before .before .before .before .before .before .before .before .before .before .before .before .before .before .before .before .before in rejoined (s .args .n) (s .args .trail .now) (c .before .before .before .before .before .before .before .before .before .before .before .before .before .before .before .before .before .before .list-session .last .1 .1 .1 .1 .1 .1 .1 .1 .0) (c .before .before .before .before .before .before .before .before .before .before .before .before .before .before .before .before .before .before .list-session .kept .1 .1 .1 .1 .1 .1 .1 .1 .0))
-    (λ c. let s = c .before .before .before .before .before .before .before .before .before .before .before .before .before .before .before .before .before .before .before .before .before .before .before .before .before .before .before .before .before .before .before .before .before .before .before .before .before .before .before .before in rejoined (s .args .n) (s .args .opened .now) (c .before .before .before .before .before .before .before .before .before .before .before .before .before .before .before .before .before .before .list-session .last .1 .1 .1 .1 .1 .1 .1 .1 .1 .0) (c .before .before .before .before .before .before .before .before .before .before .before .before .before .before .before .before .before .before .list-session .kept .1 .1 .1 .1 .1 .1 .1 .1 .1 .0))
-    (λ c. let s = c .before .before .before .before .before .before .before .before .before .before .before .before .before .before .before .before .before .before .before .before .before .before .before .before .before .before .before .before .before .before .before .before .before .before .before .before .before .before .before .before in rejoined (s .args .n) (s .args .next .now) (c .before .before .before .before .before .before .before .before .before .before .before .before .before .before .before .before .before .before .list-session .last .1 .1 .1 .1 .1 .1 .1 .1 .1 .1 .0) (c .before .before .before .before .before .before .before .before .before .before .before .before .before .before .before .before .before .before .list-session .kept .1 .1 .1 .1 .1 .1 .1 .1 .1 .1 .0))
-    (λ c. let s = c .before .before .before .before .before .before .before .before .before .before .before .before .before .before .before .before .before .before .before .before .before .before .before .before .before .before .before .before .before .before .before .before .before .before .before .before .before .before .before .before in rejoined (s .args .n) (s .args .prev .now) (c .before .before .before .before .before .before .before .before .before .before .before .before .before .before .before .before .before .before .list-session .last .1 .1 .1 .1 .1 .1 .1 .1 .1 .1 .1 .0) (c .before .before .before .before .before .before .before .before .before .before .before .before .before .before .before .before .before .before .list-session .kept .1 .1 .1 .1 .1 .1 .1 .1 .1 .1 .1 .0))
-    (λ c. let s = c .before .before .before .before .before .before .before .before .before .before .before .before .before .before .before .before .before .before .before .before .before .before .before .before .before .before .before .before .before .before .before .before .before .before .before .before .before .before .before .before in rejoined (s .args .n) (s .args .ts .now) (c .before .before .before .before .before .before .before .before .before .before .before .before .before .before .before .before .before .before .list-session .last .1 .1 .1 .1 .1 .1 .1 .1 .1 .1 .1 .1 .0) (c .before .before .before .before .before .before .before .before .before .before .before .before .before .before .before .before .before .before .list-session .kept .1 .1 .1 .1 .1 .1 .1 .1 .1 .1 .1 .1 .0))
-    (λ c. c .before .before .before .before .before .before .before .before .before .before .before .before .before .before .before .before .before .before .list-session .ensures))
+    from-fresh-requires
+    (λ c. c .before .before .before .before .before .before .before .before .before .before .before .before .before .before .before .before .before .before .from-fresh .kept .1 .0)
+    (λ c. let s = c .before .before .before .before .before .before .before .before .before .before .before .before .before .before .before .before .before .before .before .before .before .before .before .before .before .before .before .before .before .before .before .before .before .before .before .before .before .before .before .before in rejoined (s .args .n) (s .args .values .now) (c .before .before .before .before .before .before .before .before .before .before .before .before .before .before .before .before .before .before .from-fresh .last .1 .1 .1 .1 .1 .0) (c .before .before .before .before .before .before .before .before .before .before .before .before .before .before .before .before .before .before .from-fresh .kept .1 .1 .1 .1 .1 .0))
+    (λ c. let s = c .before .before .before .before .before .before .before .before .before .before .before .before .before .before .before .before .before .before .before .before .before .before .before .before .before .before .before .before .before .before .before .before .before .before .before .before .before .before .before .before in rejoined (s .args .n) (s .args .levels .now) (c .before .before .before .before .before .before .before .before .before .before .before .before .before .before .before .before .before .before .from-fresh .last .1 .1 .1 .1 .1 .1 .0) (c .before .before .before .before .before .before .before .before .before .before .before .before .before .before .before .before .before .before .from-fresh .kept .1 .1 .1 .1 .1 .1 .0))
+    (λ c. let s = c .before .before .before .before .before .before .before .before .before .before .before .before .before .before .before .before .before .before .before .before .before .before .before .before .before .before .before .before .before .before .before .before .before .before .before .before .before .before .before .before in rejoined (s .args .n) (s .args .reasons .now) (c .before .before .before .before .before .before .before .before .before .before .before .before .before .before .before .before .before .before .from-fresh .last .1 .1 .1 .1 .1 .1 .1 .0) (c .before .before .before .before .before .before .before .before .before .before .before .before .before .before .before .before .before .before .from-fresh .kept .1 .1 .1 .1 .1 .1 .1 .0))
+    (λ c. let s = c .before .before .before .before .before .before .before .before .before .before .before .before .before .before .before .before .before .before .before .before .before .before .before .before .before .before .before .before .before .before .before .before .before .before .before .before .before .before .before .before in rejoined (s .args .n) (s .args .trail .now) (c .before .before .before .before .before .before .before .before .before .before .before .before .before .before .before .before .before .before .from-fresh .last .1 .1 .1 .1 .1 .1 .1 .1 .0) (c .before .before .before .before .before .before .before .before .before .before .before .before .before .before .before .before .before .before .from-fresh .kept .1 .1 .1 .1 .1 .1 .1 .1 .0))
+    (λ c. let s = c .before .before .before .before .before .before .before .before .before .before .before .before .before .before .before .before .before .before .before .before .before .before .before .before .before .before .before .before .before .before .before .before .before .before .before .before .before .before .before .before in rejoined (s .args .n) (s .args .opened .now) (c .before .before .before .before .before .before .before .before .before .before .before .before .before .before .before .before .before .before .from-fresh .last .1 .1 .1 .1 .1 .1 .1 .1 .1 .0) (c .before .before .before .before .before .before .before .before .before .before .before .before .before .before .before .before .before .before .from-fresh .kept .1 .1 .1 .1 .1 .1 .1 .1 .1 .0))
+    (λ c. let s = c .before .before .before .before .before .before .before .before .before .before .before .before .before .before .before .before .before .before .before .before .before .before .before .before .before .before .before .before .before .before .before .before .before .before .before .before .before .before .before .before in rejoined (s .args .n) (s .args .next .now) (c .before .before .before .before .before .before .before .before .before .before .before .before .before .before .before .before .before .before .from-fresh .last .1 .1 .1 .1 .1 .1 .1 .1 .1 .1 .0) (c .before .before .before .before .before .before .before .before .before .before .before .before .before .before .before .before .before .before .from-fresh .kept .1 .1 .1 .1 .1 .1 .1 .1 .1 .1 .0))
+    (λ c. let s = c .before .before .before .before .before .before .before .before .before .before .before .before .before .before .before .before .before .before .before .before .before .before .before .before .before .before .before .before .before .before .before .before .before .before .before .before .before .before .before .before in rejoined (s .args .n) (s .args .prev .now) (c .before .before .before .before .before .before .before .before .before .before .before .before .before .before .before .before .before .before .from-fresh .last .1 .1 .1 .1 .1 .1 .1 .1 .1 .1 .1 .0) (c .before .before .before .before .before .before .before .before .before .before .before .before .before .before .before .before .before .before .from-fresh .kept .1 .1 .1 .1 .1 .1 .1 .1 .1 .1 .1 .0))
+    (λ c. let s = c .before .before .before .before .before .before .before .before .before .before .before .before .before .before .before .before .before .before .before .before .before .before .before .before .before .before .before .before .before .before .before .before .before .before .before .before .before .before .before .before in rejoined (s .args .n) (s .args .ts .now) (c .before .before .before .before .before .before .before .before .before .before .before .before .before .before .before .before .before .before .from-fresh .last .1 .1 .1 .1 .1 .1 .1 .1 .1 .1 .1 .1 .0) (c .before .before .before .before .before .before .before .before .before .before .before .before .before .before .before .before .before .before .from-fresh .kept .1 .1 .1 .1 .1 .1 .1 .1 .1 .1 .1 .1 .0))
+    (λ c. c .before .before .before .before .before .before .before .before .before .before .before .before .before .before .before .before .before .before .from-fresh .ensures))

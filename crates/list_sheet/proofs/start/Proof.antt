@@ -1,4 +1,4 @@
--- `list_rest::start` meets its contract: the slices have the lengths that creation needs, and what it makes passes the check.
+-- `list_sheet::start` meets its contract: the slices have the lengths that creation needs, and what it makes passes the check.
 use Prim.Native.Nat.{ℕ}
 use mathlib.Core.Path.{refl, sym, ap, _∙_}
 use native.Mathlib.Omega.{arith}

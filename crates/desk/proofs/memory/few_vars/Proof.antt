@@ -1,4 +1,4 @@
--- `desk_lines::few_vars` meets its contract: the mode tells the number.
+-- `desk::memory::few_vars` meets its contract: the mode tells the number.
 use mathlib.Core.Path.{_≡_, refl}
 use mathlib.Core.Bool.{true, false}
 use borrow.Author.Needs.{needs}

@@ -1,7 +1,7 @@
 -- `desk::memory::with_positions` meets its contract: of the lent positions the session gets those that it needs, and the others stay as they were.
 use mathlib.Core.Path.{sym}
 use lib.Seq.{length-take-le}
-use Rattle.desk.specs.Behind.{openingAt}
+use Rattle.desk.specs.Memory.{openingAt}
 use Rattle.desk.specs.Positions.{used-front, front-enough}
 use borrow.Author.Needs.{needs}
 use Rattle.desk.proofs.memory.with_positions.Statement.{statement}
@@ -19,16 +19,16 @@ returns-2 c =
     let l = c .before .before .before .before .short-lines in
     (l .ensures, used-front (openingAt (s .args .heap) (s .args .n)) (s .args .positions .now) (l .last .1 .1 .0) (s .pre .1) (c .before .before .before .before .before .before .before .before .before .positions-needed .ensures) (c .before .before .before .before .before .before .before .before .if1 .left) (l .kept .1 .1 .0))
 
-slice-aggregate-lines-behind : tie.Need-slice-aggregate-lines-behind
-slice-aggregate-lines-behind c = sym (length-take-le (c .before .before .before .before .positions-needed .result) (c .before .before .before .before .before .before .before .before .args .positions .now) (c .before .before .before .if1 .left))
+slice-aggregate-sheet-lines : tie.Need-slice-aggregate-sheet-lines
+slice-aggregate-sheet-lines c = sym (length-take-le (c .before .before .before .before .positions-needed .result) (c .before .before .before .before .before .before .before .before .args .positions .now) (c .before .before .before .if1 .left))
 
-lines-behind-requires : tie.Need-lines-behind-requires
-lines-behind-requires c κs = let s = c .before .before .before .before .before .before .before .before in (s .pre .0, s .pre .1, front-enough (s .args .positions .now) (c .before .before .before .before .positions-needed .ensures) (c .before .before .before .if1 .left))
+sheet-lines-requires : tie.Need-sheet-lines-requires
+sheet-lines-requires c κs = let s = c .before .before .before .before .before .before .before .before in (s .pre .0, s .pre .1, front-enough (s .args .positions .now) (c .before .before .before .before .positions-needed .ensures) (c .before .before .before .if1 .left))
 
 returns-3 : tie.Need-returns-3
 returns-3 c =
     let s = c .before .before .before .before .before .before .before .before .before .before .before .before .before in
-    let l = c .before .before .before .before .lines-behind in
+    let l = c .before .before .before .before .sheet-lines in
     (l .ensures, used-front (openingAt (s .args .heap) (s .args .n)) (s .args .positions .now) (l .last .1 .1 .0) (s .pre .1) (c .before .before .before .before .before .before .before .before .before .positions-needed .ensures) (c .before .before .before .before .before .before .before .before .if1 .left) (l .kept .1 .1 .0))
 
 pub with-positions-spec : {M : Type 1} → statement M
@@ -47,8 +47,8 @@ with-positions-spec =
     (λ c. search needs)
     returns-2
     (λ c. search needs)
-    slice-aggregate-lines-behind
-    lines-behind-requires
+    slice-aggregate-sheet-lines
+    sheet-lines-requires
     (λ c. search needs)
     (λ c. search needs)
     returns-3)

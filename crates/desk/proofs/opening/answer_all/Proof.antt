@@ -1,10 +1,10 @@
--- `desk_first::answer_all` meets its contract: what was read of the first line says how it is answered.
+-- `desk::opening::answer_all` meets its contract: what was read of the first line says how it is answered.
 use mathlib.Core.Path.{sym}
 use native.Mathlib.Omega.{arith}
 use lib.Seq.{length-take-le}
 use Rattle.forms.specs.Text.{newline}
 use Rattle.forms.specs.TextLaws.{find-length}
-use Rattle.desk.specs.First.{first-fits, first-done}
+use Rattle.desk.specs.Opening.{first-fits, first-done}
 use Rattle.desk.specs.Positions.{untouched}
 use borrow.Author.Needs.{needs}
 use Rattle.desk.proofs.opening.answer_all.Statement.{statement}

@@ -1,11 +1,11 @@
--- `desk_first::open` meets its contract: a first line with too many variables is refused; else it is answered, and so are the lines behind it.
+-- `desk::opening::open` meets its contract: a first line with too many variables is refused; else it is answered, and so are the lines behind it.
 use mathlib.Core.Path.{_∙_}
 use Prim.Native.Nat.{_≤_, _<_}
 use native.Mathlib.Omega.{arith}
 use Rattle.lit.specs.Numbers.{maxVars}
 use Rattle.sheet.specs.Running.{linesFrom}
 use Rattle.sheet.specs.Steps.{line-inside}
-use Rattle.desk.specs.First.{first-fits, first-room, first-refused, first-opened}
+use Rattle.desk.specs.Opening.{first-fits, first-room, first-refused, first-opened}
 use Rattle.desk.specs.Positions.{untouched}
 use borrow.Author.Needs.{needs}
 use Rattle.desk.proofs.opening.open.Statement.{statement}

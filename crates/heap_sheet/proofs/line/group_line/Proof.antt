@@ -1,4 +1,4 @@
--- `heap_line::group_line` meets its contract: a short line's group fits in the short scratch, any group in the long one.
+-- `heap_sheet::line::group_line` meets its contract: a short line's group fits in the short scratch, any group in the long one.
 use native.Mathlib.Omega.{arith}
 use borrow.Author.Needs.{needs}
 use Rattle.heap_sheet.proofs.line.group_line.Statement.{statement}

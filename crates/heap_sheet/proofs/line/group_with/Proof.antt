@@ -1,4 +1,4 @@
--- `heap_line::group_with` meets its contract: the group that was read is answered; a line that is none is refused.
+-- `heap_sheet::line::group_with` meets its contract: the group that was read is answered; a line that is none is refused.
 use mathlib.Core.Path.{sym}
 use lib.Seq.{length-take-le}
 use Rattle.sheet.specs.Called.{group-within, group-refused, group-answered}

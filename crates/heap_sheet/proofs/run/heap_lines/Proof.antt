@@ -1,4 +1,4 @@
--- `heap_run::heap_lines` meets its contract: each line that is answered leaves the run's end where it was.
+-- `heap_sheet::run::heap_lines` meets its contract: each line that is answered leaves the run's end where it was.
 use mathlib.Core.Path.{_≡_, refl, sym, _∙_}
 use native.Mathlib.Omega.{arith}
 use lib.ListN.{length}

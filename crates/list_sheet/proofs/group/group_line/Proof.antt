@@ -1,4 +1,4 @@
--- `list_group::group_line` meets its contract: a line has at most half as many variables as bytes, and no group has more than 2,048.
+-- `list_sheet::group::group_line` meets its contract: a line has at most half as many variables as bytes, and no group has more than 2,048.
 use Prim.Native.Nat.{ℕ, _*_, _≤_}
 use mathlib.Core.Path.{refl}
 use mathlib.Core.List.{List}

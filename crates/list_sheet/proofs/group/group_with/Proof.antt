@@ -1,4 +1,4 @@
--- `list_group::group_with` meets its contract: the group that was read moves; a line that is none is refused.
+-- `list_sheet::group::group_with` meets its contract: the group that was read moves; a line that is none is refused.
 use Prim.Native.Nat.{ℕ, _≤_}
 use mathlib.Core.Path.{_≡_, sym, _∙_}
 use native.Mathlib.Omega.{arith}

@@ -1,4 +1,4 @@
--- `list_run::list_lines` meets its contract: each line that is answered leaves the run's end where it was.
+-- `list_sheet::run::list_lines` meets its contract: each line that is answered leaves the run's end where it was.
 use Prim.Native.Nat.{ℕ}
 use mathlib.Core.Path.{_≡_, refl, _∙_}
 use mathlib.Core.List.{List, []}

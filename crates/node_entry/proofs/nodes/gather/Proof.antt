@@ -1,4 +1,4 @@
--- `nodes::gather` meets its contract: a walk of its MIR, by hand. The flat slices are opened before the loop and left after it; a turn reads a node (`Reading.antt`) and stores its fields.
+-- `node_entry::nodes::gather` meets its contract: a walk of its MIR, by hand. The flat slices are opened before the loop and left after it; a turn reads a node (`Reading.antt`) and stores its fields.
 -- The loop's invariant: of each flat slice the first places, as many as nodes are passed, have been filled (`Filled.antt`).
 use mathlib.Core.Path.{_≡_, refl, sym, _∙_, ap, subst}
 use Prim.Native.Nat.{ℕ, _<_, _^_}

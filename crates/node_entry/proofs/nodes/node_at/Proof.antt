@@ -1,4 +1,4 @@
--- `nodes::node_at` meets its contract: a walk of its MIR, by hand. The slice is looked into, and the node's cell is copied.
+-- `node_entry::nodes::node_at` meets its contract: a walk of its MIR, by hand. The slice is looked into, and the node's cell is copied.
 use mathlib.Core.Path.{refl}
 use Prim.Native.Nat.{ℕ, _<_, _^_}
 use mathlib.Core.List.{List, [], _∷_}

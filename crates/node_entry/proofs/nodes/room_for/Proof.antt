@@ -1,4 +1,4 @@
--- `nodes::room_for` meets its contract: the test decides, either way.
+-- `node_entry::nodes::room_for` meets its contract: the test decides, either way.
 use borrow.Author.Tests.{lt-ltb, le-ltb}
 use Rattle.node_entry.proofs.nodes.room_for.Statement.{statement}
 use Rattle.node_entry.proofs.nodes.room_for.Tie as tie

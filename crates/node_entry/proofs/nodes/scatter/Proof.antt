@@ -1,4 +1,4 @@
--- `nodes::scatter` meets its contract: a walk of its MIR, by hand. The flat slices are looked into before the loop and shut after it; a turn reads an element of each, and writes the node of them (`Writing.antt`).
+-- `node_entry::nodes::scatter` meets its contract: a walk of its MIR, by hand. The flat slices are looked into before the loop and shut after it; a turn reads an element of each, and writes the node of them (`Writing.antt`).
 -- The loop's invariant: the first nodes, as many as are passed, have been filled (`Filled.antt`).
 use mathlib.Core.Path.{_≡_, refl, sym, _∙_, ap, subst}
 use Prim.Native.Nat.{ℕ, _<_}

@@ -1,4 +1,4 @@
--- `nodes::set_node` meets its contract: a walk of its MIR, by hand. The slice is opened, the node is stored, and the slice is left at the list with the node in it.
+-- `node_entry::nodes::set_node` meets its contract: a walk of its MIR, by hand. The slice is opened, the node is stored, and the slice is left at the list with the node in it.
 use mathlib.Core.Path.{refl}
 use Prim.Native.Nat.{ℕ, _<_, _^_}
 use mathlib.Core.List.{List, [], _∷_}

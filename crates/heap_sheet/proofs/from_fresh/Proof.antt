@@ -1,4 +1,4 @@
--- `heap_rest::heap_session` meets its contract: a fresh session is good, so the check lets it through, and its lines are answered.
+-- `heap_sheet::from_fresh` meets its contract: a fresh session is good, so the check lets it through, and its lines are answered.
 use Prim.Native.Nat.{ℕ}
 use mathlib.Core.Path.{_≡_, refl, sym, subst, _∙_}
 use mathlib.Core.Bool.{true, true≢false}
@@ -7,8 +7,8 @@ use borrow.Author.Tests.{not-true}
 use Rattle.sheet.specs.Stages.{Stage}
 use Rattle.sheet.specs.Running.{Ended}
 use Rattle.heap_sheet.specs.Start.{started-heap, started-opened, started-good, started-sized, started-lengths, started-passes}
-use Rattle.heap_sheet.proofs.heap_session.Statement.{statement}
-use Rattle.heap_sheet.proofs.heap_session.Tie as tie
+use Rattle.heap_sheet.proofs.from_fresh.Statement.{statement}
+use Rattle.heap_sheet.proofs.from_fresh.Tie as tie
 
 all-members-requires : tie.Need-all-members-requires
 all-members-requires c κs = let s = c .before .before .before .before .before .before .before .before .before .before .before .before .before .before .before in (omega (arith, s .pre .0 .1, s .pre .1 .1 .1), s .pre .1 .1 .2 ∙ sym (s .pre .1 .1 .1))
@@ -41,8 +41,8 @@ returns-2 c =
     let l = c .before .before .before .before .before .before .before .before .before .before .before .before .before .before .before .before .before .before .before .before .heap-lines in
     subst (λ (x : Stage). Ended (s .args .sheet .now) (s .args .p) x (s .args .out .now) (l .result) (l .last .1 .0)) (started-opened (s .args .n) (s .args .lits .now) (s .args .ends .now) (s .pre .1 .0) h) (l .ensures)
 
-pub heap-session-spec : {M : Type 1} → statement M
-heap-session-spec =
+pub from-fresh-spec : {M : Type 1} → statement M
+from-fresh-spec =
     tie.close
     (tie.spec
     all-members-requires

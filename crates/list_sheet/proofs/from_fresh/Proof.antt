@@ -1,11 +1,11 @@
--- `list_rest::list_session` meets its contract: the session passes its check, and its lines end the run.
+-- `list_sheet::from_fresh` meets its contract: the session passes its check, and its lines end the run.
 use mathlib.Core.Path.{sym, _∙_}
 use mathlib.Core.Bool.{false≢true}
 use native.Mathlib.Omega.{arith}
 use borrow.Author.Tests.{not-true}
 use Rattle.list_sheet.specs.Start.{clause-literals, started-good, started-ended}
-use Rattle.list_sheet.proofs.list_session.Statement.{statement}
-use Rattle.list_sheet.proofs.list_session.Tie as tie
+use Rattle.list_sheet.proofs.from_fresh.Statement.{statement}
+use Rattle.list_sheet.proofs.from_fresh.Tie as tie
 
 cast-start : tie.Need-cast-start
 cast-start c = omega (arith, c .before .before .before .before .before .before .before .before .before .before .before .before .pre .0 .2 .list .few-clauses)
@@ -31,8 +31,8 @@ returns-2 c =
     let a = c .before .before .before .before .before .before .before .before .before .before .before .before .before .before .before .before .before .before .before .before .before .before .before .before .before .before .before .before .before .before .before .before .before .before .before .before .before .before .before .before .before .before .before .before .before .before .before .start in
     started-ended (s .args .lits .now) (s .pre .0 .1) (a .ensures .0) (a .ensures .1 .0) (s .args .ends .now) (c .before .before .before .before .before .before .before .before .before .before .before .before .before .before .before .before .before .before .list-lines .ensures (s .args .lits .now))
 
-pub list-session-spec : {M : Type 1} → statement M
-list-session-spec =
+pub from-fresh-spec : {M : Type 1} → statement M
+from-fresh-spec =
     tie.close
     (tie.spec
     cast-start

@@ -21,7 +21,7 @@ use Rattle.sheet.specs.Turns.{answered-turns}
 use Rattle.sheet.specs.Writing.{Wrote, put-more}
 use Rattle.sheet.specs.Bounds.{answer-short}
 use Rattle.sheet.specs.Running.{linesFrom, lineLength, lineFrom, after, Room, Ended}
-use Rattle.desk.specs.Behind.{modeOf, openingAt}
+use Rattle.desk.specs.Memory.{modeOf, openingAt}
 use Rattle.desk.specs.Positions.{usedBy, usedOn, SameFrom}
 use Rattle.sheet.specs.Steps.{lines-more, answer-room, room-behind}
 
