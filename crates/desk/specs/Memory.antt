@@ -21,9 +21,9 @@ use Rattle.sheet.specs.ClauseLines.{section-over}
 abbrev pub fewVars : Bool → ℕ
 fewVars heap = cond heap heap-sizes.few list-sizes.few
 
--- how many literals, and how many clauses, a short sheet may have: `src/memory.rt` has the same number for code
+-- how many bytes a short sheet may have: `src/memory.rt` has the same number for code
 abbrev pub short : ℕ
-short = 256
+short = 1024
 
 -- heap mode, or list mode
 abbrev pub modeOf : Bool → Mode

@@ -3,7 +3,7 @@ ghost use mathlib.Core.Path.{_≡_};
 ghost use mathlib.Core.Bool.{Bool, true, false};
 ghost use mathlib.Core.List.{[]};
 ghost use mathlib.Core.Option.{some};
-ghost use Prim.Native.Nat.{_*_, _≤_};
+ghost use Prim.Native.Nat.{_≤_};
 ghost use lib.ListN.{length};
 ghost use Rattle.lit.specs.Numbers as number;
 ghost use Rattle.formula.specs.Good.{GoodClauses};
@@ -164,10 +164,10 @@ fn sheet_lines(
     without_clauses(sheet, out, positions, heap, n, p)
 }
 
-// A short sheet has at most so many literals, and so many clauses: a literal takes two bytes at least, and so does a clause line.
-const SHORT: usize = 256;
+// A short sheet has at most so many bytes. A literal takes two at least, and so does a clause line.
+const SHORT: usize = 1024;
 
-// The same on a short sheet, where the slices for clauses are short.
+// The same on a short sheet, which has this way to itself, with none of the long slices for clauses.
 fn short_lines(
     sheet: &[u8],
     out: &mut [u8],
@@ -176,12 +176,12 @@ fn short_lines(
     n: u32,
     p: Place,
 ) -> usize
-    requires { ⌜ Room (now sheet) p (now out) × (n ≤ number.maxVars) × (heap ≡ true → n ≤ length (now positions)) × (length (now sheet) ≤ 2 * short) ⌝ }
+    requires { ⌜ Room (now sheet) p (now out) × (n ≤ number.maxVars) × (heap ≡ true → n ≤ length (now positions)) × (length (now sheet) ≤ short) ⌝ }
     ensures { λ r. ⌜ Ended (now (sheet .entry)) p (reading (modeOf heap) n [] []) (now (out .entry)) r (now (out .exit)) ⌝ }
 {
     if next_is_clause(sheet, p) {
-        let mut lits = [0u32; SHORT];
-        let mut ends = [0u32; SHORT];
+        let mut lits = [0u32; SHORT / 2];
+        let mut ends = [0u32; SHORT / 2];
         return clauses_with(sheet, out, positions, heap, n, &mut lits, &mut ends, p);
     }
     without_clauses(sheet, out, positions, heap, n, p)
@@ -190,16 +190,14 @@ fn short_lines(
 // How many variables the shorter array of positions has room for.
 const FEW: u32 = 320;
 
-// The lines behind the first, on positions set up for them.
+// The lines behind the first, on positions set up for them: few for few variables on a short sheet.
 fn own_positions(sheet: &[u8], out: &mut [u8], heap: bool, n: u32, p: Place) -> usize
     requires { ⌜ Room (now sheet) p (now out) × (n ≤ number.maxVars) ⌝ }
     ensures { λ r. ⌜ Ended (now (sheet .entry)) p (reading (modeOf heap) n [] []) (now (out .entry)) r (now (out .exit)) ⌝ }
 {
-    if n <= FEW {
-        if sheet.len() <= 2 * SHORT {
-            let mut few = [NONE; FEW as usize];
-            return short_lines(sheet, out, &mut few, heap, n, p);
-        }
+    if n <= FEW && sheet.len() <= SHORT {
+        let mut few = [NONE; FEW as usize];
+        return short_lines(sheet, out, &mut few, heap, n, p);
     }
     let mut all = [NONE; MAX_VARS as usize];
     sheet_lines(sheet, out, &mut all, heap, n, p)
@@ -232,7 +230,7 @@ pub fn with_positions(
     if k > positions.len() {
         return own_positions(sheet, out, heap, n, p);
     }
-    if sheet.len() <= 2 * SHORT {
+    if sheet.len() <= SHORT {
         return short_lines(sheet, out, &mut positions[..k], heap, n, p);
     }
     sheet_lines(sheet, out, &mut positions[..k], heap, n, p)

@@ -6,7 +6,7 @@ abbrev pub few : ℕ
 few = 320
 
 abbrev pub many : ℕ
-many = 1152
+many = 1280
 
 -- and the longest
 abbrev pub all : ℕ

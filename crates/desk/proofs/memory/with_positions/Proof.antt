@@ -40,7 +40,6 @@ with-positions-spec =
     (λ c. search needs)
     (λ c. search needs)
     (λ c. search needs)
-    (λ c. search needs)
     slice-aggregate-short-lines
     short-lines-requires
     (λ c. search needs)
