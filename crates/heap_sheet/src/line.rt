@@ -37,11 +37,10 @@ pub struct HeapPlace {
 // A group's line, with scratch for its variables: they are tested, and nothing changes.
 fn group_with(line: &[u8], n: u32, s: HeapState, vars: &mut [u32]) -> HeapAnswer
     requires { ⌜ Fits (now line) (now vars) ⌝ }
-    ensures { λ r. ⌜ ((m : ℕ) (lits ends values levels reasons trail opened : List ℕ) (a : List Float) (h p : List ℕ) (d : List Bool) → Answered (called n m (heapOps n lits ends) (sessionOf n m lits ends values levels reasons trail opened a h p d s) (groupOn (now (line .entry))))
-        (sessionOf n m lits ends values levels reasons trail opened a h p d s)
-        (r .status)
-        (r .reply)
-        (sessionOf n m lits ends values levels reasons trail opened a h p d (r .state))) ⌝ }
+    ensures { λ r. ⌜ ((m : ℕ) (lits ends values levels reasons trail opened : List ℕ) (a : List Float) (h p : List ℕ) (d : List Bool) →
+        let before = sessionOf n m lits ends values levels reasons trail opened a h p d s in
+        let after = sessionOf n m lits ends values levels reasons trail opened a h p d (r .state) in
+        Answered (called n m (heapOps n lits ends) before (groupOn (now (line .entry)))) before (r .status) (r .reply) after) ⌝ }
 {
     match forms::read_group(line, vars) {
         Count::Bad => heap_session::refuse(BAD_LINE, s),
@@ -51,11 +50,10 @@ fn group_with(line: &[u8], n: u32, s: HeapState, vars: &mut [u32]) -> HeapAnswer
 
 // The same with scratch of its own, less for a short line.
 fn group_line(line: &[u8], n: u32, s: HeapState) -> HeapAnswer
-    ensures { λ r. ⌜ ((m : ℕ) (lits ends values levels reasons trail opened : List ℕ) (a : List Float) (h p : List ℕ) (d : List Bool) → Answered (called n m (heapOps n lits ends) (sessionOf n m lits ends values levels reasons trail opened a h p d s) (groupOn (now (line .entry))))
-        (sessionOf n m lits ends values levels reasons trail opened a h p d s)
-        (r .status)
-        (r .reply)
-        (sessionOf n m lits ends values levels reasons trail opened a h p d (r .state))) ⌝ }
+    ensures { λ r. ⌜ ((m : ℕ) (lits ends values levels reasons trail opened : List ℕ) (a : List Float) (h p : List ℕ) (d : List Bool) →
+        let before = sessionOf n m lits ends values levels reasons trail opened a h p d s in
+        let after = sessionOf n m lits ends values levels reasons trail opened a h p d (r .state) in
+        Answered (called n m (heapOps n lits ends) before (groupOn (now (line .entry)))) before (r .status) (r .reply) after) ⌝ }
 {
     if line.len() <= 2 * FEW {
         let mut few = [NONE; FEW];
@@ -84,13 +82,10 @@ fn line_call(
     s: HeapState,
 ) -> HeapAnswer
     requires { ⌜ GoodSession n m (now lits) (now ends) (trailOf (now values) (now levels) (now reasons) (now trail) (now opened) (s .trail)) (vsidsOf (now activity) (now heap) (now indices) (now decision) (s .vsids)) ⌝ }
-    ensures { λ r. ⌜ Answered (called n m (heapOps n (now (lits .entry)) (now (ends .entry)))
-        (sessionOf n m (now (lits .entry)) (now (ends .entry)) (now (values .entry)) (now (levels .entry)) (now (reasons .entry)) (now (trail .entry)) (now (opened .entry)) (now (activity .entry)) (now (heap .entry)) (now (indices .entry)) (now (decision .entry)) s)
-        (callIn (now (line .entry))))
-        (sessionOf n m (now (lits .entry)) (now (ends .entry)) (now (values .entry)) (now (levels .entry)) (now (reasons .entry)) (now (trail .entry)) (now (opened .entry)) (now (activity .entry)) (now (heap .entry)) (now (indices .entry)) (now (decision .entry)) s)
-        (r .status)
-        (r .reply)
-        (sessionOf n m (now (lits .entry)) (now (ends .entry)) (now (values .exit)) (now (levels .exit)) (now (reasons .exit)) (now (trail .exit)) (now (opened .exit)) (now (activity .exit)) (now (heap .exit)) (now (indices .exit)) (now (decision .exit)) (r .state)) ⌝ }
+    ensures { λ r.
+        let before = sessionOf n m (now (lits .entry)) (now (ends .entry)) (now (values .entry)) (now (levels .entry)) (now (reasons .entry)) (now (trail .entry)) (now (opened .entry)) (now (activity .entry)) (now (heap .entry)) (now (indices .entry)) (now (decision .entry)) s in
+        let after = sessionOf n m (now (lits .entry)) (now (ends .entry)) (now (values .exit)) (now (levels .exit)) (now (reasons .exit)) (now (trail .exit)) (now (opened .exit)) (now (activity .exit)) (now (heap .exit)) (now (indices .exit)) (now (decision .exit)) (r .state) in
+        ⌜ Answered (called n m (heapOps n (now (lits .entry)) (now (ends .entry))) before (callIn (now (line .entry)))) before (r .status) (r .reply) after ⌝ }
 {
     let none = [0u32; 0];
     match forms::read_call(line) {
@@ -140,13 +135,10 @@ pub fn next_line(
     requires { ⌜ Room (now sheet) (s .place) (now out) × (0 < s .place .left) ⌝ }
     requires { ⌜ GoodSession n (length (now ends)) (now lits) (now ends) (trailOf (now values) (now levels) (now reasons) (now trail) (now opened) (s .state .trail)) (vsidsOf (now activity) (now heap) (now indices) (now decision) (s .state .vsids)) ⌝ }
     ensures { λ r. ⌜ r .place .left + 1 ≡ s .place .left ⌝ }
-    ensures { λ r. ⌜ HeapAlong n (now (lits .entry)) (now (ends .entry)) (now (sheet .entry))
-        (s .place)
-        (sessionOf n (length (now (ends .entry))) (now (lits .entry)) (now (ends .entry)) (now (values .entry)) (now (levels .entry)) (now (reasons .entry)) (now (trail .entry)) (now (opened .entry)) (now (activity .entry)) (now (heap .entry)) (now (indices .entry)) (now (decision .entry)) (s .state))
-        (now (out .entry))
-        (r .place)
-        (sessionOf n (length (now (ends .entry))) (now (lits .entry)) (now (ends .entry)) (now (values .exit)) (now (levels .exit)) (now (reasons .exit)) (now (trail .exit)) (now (opened .exit)) (now (activity .exit)) (now (heap .exit)) (now (indices .exit)) (now (decision .exit)) (r .state))
-        (now (out .exit)) ⌝ }
+    ensures { λ r.
+        let before = sessionOf n (length (now (ends .entry))) (now (lits .entry)) (now (ends .entry)) (now (values .entry)) (now (levels .entry)) (now (reasons .entry)) (now (trail .entry)) (now (opened .entry)) (now (activity .entry)) (now (heap .entry)) (now (indices .entry)) (now (decision .entry)) (s .state) in
+        let after = sessionOf n (length (now (ends .entry))) (now (lits .entry)) (now (ends .entry)) (now (values .exit)) (now (levels .exit)) (now (reasons .exit)) (now (trail .exit)) (now (opened .exit)) (now (activity .exit)) (now (heap .exit)) (now (indices .exit)) (now (decision .exit)) (r .state) in
+        ⌜ HeapAlong n (now (lits .entry)) (now (ends .entry)) (now (sheet .entry)) (s .place) before (now (out .entry)) (r .place) after (now (out .exit)) ⌝ }
 {
     let p = s.place;
     let from = p.from;

@@ -29,11 +29,9 @@ pub fn heap_lines(
 ) -> usize
     requires { ⌜ Room (now sheet) (s .place) (now out) ⌝ }
     requires { ⌜ GoodSession n (length (now ends)) (now lits) (now ends) (trailOf (now values) (now levels) (now reasons) (now trail) (now opened) (s .state .trail)) (vsidsOf (now activity) (now heap) (now indices) (now decision) (s .state .vsids)) ⌝ }
-    ensures { λ r. ⌜ Ended (now (sheet .entry)) (s .place)
-        (inHeap n (now (lits .entry)) (now (ends .entry)) (sessionOf n (length (now (ends .entry))) (now (lits .entry)) (now (ends .entry)) (now (values .entry)) (now (levels .entry)) (now (reasons .entry)) (now (trail .entry)) (now (opened .entry)) (now (activity .entry)) (now (heap .entry)) (now (indices .entry)) (now (decision .entry)) (s .state)))
-        (now (out .entry))
-        r
-        (now (out .exit)) ⌝ }
+    ensures { λ r.
+        let before = sessionOf n (length (now (ends .entry))) (now (lits .entry)) (now (ends .entry)) (now (values .entry)) (now (levels .entry)) (now (reasons .entry)) (now (trail .entry)) (now (opened .entry)) (now (activity .entry)) (now (heap .entry)) (now (indices .entry)) (now (decision .entry)) (s .state) in
+        ⌜ Ended (now (sheet .entry)) (s .place) (inHeap n (now (lits .entry)) (now (ends .entry)) before) (now (out .entry)) r (now (out .exit)) ⌝ }
 {
     let mut u = s;
     let mut left = s.place.left;

@@ -33,13 +33,10 @@ fn group_with(
 ) -> ListAnswer
     requires { ⌜ InOrder n (vmtfOf (now next) (now prev) (now ts) (s .vmtf)) ⌝ }
     requires { ⌜ Fits (now line) (now vars) × (length (now stamps) ≡ length (now vars)) × (length (now order) ≡ length (now vars)) ⌝ }
-    ensures { λ r. ⌜ ((m : ℕ) (lits values levels reasons trail opened : List ℕ) → Answered (called n m (listOps n lits)
-        (sessionOf n m lits values levels reasons trail opened (now (next .entry)) (now (prev .entry)) (now (ts .entry)) s)
-        (groupOn (now (line .entry))))
-        (sessionOf n m lits values levels reasons trail opened (now (next .entry)) (now (prev .entry)) (now (ts .entry)) s)
-        (r .status)
-        (r .reply)
-        (sessionOf n m lits values levels reasons trail opened (now (next .exit)) (now (prev .exit)) (now (ts .exit)) (r .state))) ⌝ }
+    ensures { λ r. ⌜ ((m : ℕ) (lits values levels reasons trail opened : List ℕ) →
+        let before = sessionOf n m lits values levels reasons trail opened (now (next .entry)) (now (prev .entry)) (now (ts .entry)) s in
+        let after = sessionOf n m lits values levels reasons trail opened (now (next .exit)) (now (prev .exit)) (now (ts .exit)) (r .state) in
+        Answered (called n m (listOps n lits) before (groupOn (now (line .entry)))) before (r .status) (r .reply) after) ⌝ }
 {
     let Count::Are(k) = forms::read_group(line, vars) else {
         return list_session::refuse(BAD_LINE, s);
@@ -66,13 +63,10 @@ pub fn group_line(
     s: ListState,
 ) -> ListAnswer
     requires { ⌜ InOrder n (vmtfOf (now next) (now prev) (now ts) (s .vmtf)) ⌝ }
-    ensures { λ r. ⌜ ((m : ℕ) (lits values levels reasons trail opened : List ℕ) → Answered (called n m (listOps n lits)
-        (sessionOf n m lits values levels reasons trail opened (now (next .entry)) (now (prev .entry)) (now (ts .entry)) s)
-        (groupOn (now (line .entry))))
-        (sessionOf n m lits values levels reasons trail opened (now (next .entry)) (now (prev .entry)) (now (ts .entry)) s)
-        (r .status)
-        (r .reply)
-        (sessionOf n m lits values levels reasons trail opened (now (next .exit)) (now (prev .exit)) (now (ts .exit)) (r .state))) ⌝ }
+    ensures { λ r. ⌜ ((m : ℕ) (lits values levels reasons trail opened : List ℕ) →
+        let before = sessionOf n m lits values levels reasons trail opened (now (next .entry)) (now (prev .entry)) (now (ts .entry)) s in
+        let after = sessionOf n m lits values levels reasons trail opened (now (next .exit)) (now (prev .exit)) (now (ts .exit)) (r .state) in
+        Answered (called n m (listOps n lits) before (groupOn (now (line .entry)))) before (r .status) (r .reply) after) ⌝ }
 {
     if line.len() <= 2 * FEW {
         let mut vars = [NONE; FEW];

@@ -44,13 +44,10 @@ fn line_call(
     s: ListState,
 ) -> ListAnswer
     requires { ⌜ GoodSession n m (trailOf (now values) (now levels) (now reasons) (now trail) (now opened) (s .trail)) (vmtfOf (now next) (now prev) (now ts) (s .vmtf)) ⌝ }
-    ensures { λ r. ⌜ ((lits : List ℕ) → Answered (called n m (listOps n lits)
-        (sessionOf n m lits (now (values .entry)) (now (levels .entry)) (now (reasons .entry)) (now (trail .entry)) (now (opened .entry)) (now (next .entry)) (now (prev .entry)) (now (ts .entry)) s)
-        (callIn (now (line .entry))))
-        (sessionOf n m lits (now (values .entry)) (now (levels .entry)) (now (reasons .entry)) (now (trail .entry)) (now (opened .entry)) (now (next .entry)) (now (prev .entry)) (now (ts .entry)) s)
-        (r .status)
-        (r .reply)
-        (sessionOf n m lits (now (values .exit)) (now (levels .exit)) (now (reasons .exit)) (now (trail .exit)) (now (opened .exit)) (now (next .exit)) (now (prev .exit)) (now (ts .exit)) (r .state))) ⌝ }
+    ensures { λ r. ⌜ ((lits : List ℕ) →
+        let before = sessionOf n m lits (now (values .entry)) (now (levels .entry)) (now (reasons .entry)) (now (trail .entry)) (now (opened .entry)) (now (next .entry)) (now (prev .entry)) (now (ts .entry)) s in
+        let after = sessionOf n m lits (now (values .exit)) (now (levels .exit)) (now (reasons .exit)) (now (trail .exit)) (now (opened .exit)) (now (next .exit)) (now (prev .exit)) (now (ts .exit)) (r .state) in
+        Answered (called n m (listOps n lits) before (callIn (now (line .entry)))) before (r .status) (r .reply) after) ⌝ }
 {
     match forms::read_call(line) {
         Read::Bad => list_session::refuse(BAD_LINE, s),
@@ -99,13 +96,10 @@ pub fn next_line(
     requires { ⌜ Room (now sheet) (s .place) (now out) × (0 < s .place .left) × (length (now ends) ≤ number.maxClauses) ⌝ }
     requires { ⌜ GoodSession n (length (now ends)) (trailOf (now values) (now levels) (now reasons) (now trail) (now opened) (s .state .trail)) (vmtfOf (now next) (now prev) (now ts) (s .state .vmtf)) ⌝ }
     ensures { λ r. ⌜ r .place .left + 1 ≡ s .place .left ⌝ }
-    ensures { λ r. ⌜ ((lits : List ℕ) → ListAlong n lits (now (ends .entry)) (now (sheet .entry))
-        (s .place)
-        (sessionOf n (length (now (ends .entry))) lits (now (values .entry)) (now (levels .entry)) (now (reasons .entry)) (now (trail .entry)) (now (opened .entry)) (now (next .entry)) (now (prev .entry)) (now (ts .entry)) (s .state))
-        (now (out .entry))
-        (r .place)
-        (sessionOf n (length (now (ends .entry))) lits (now (values .exit)) (now (levels .exit)) (now (reasons .exit)) (now (trail .exit)) (now (opened .exit)) (now (next .exit)) (now (prev .exit)) (now (ts .exit)) (r .state))
-        (now (out .exit))) ⌝ }
+    ensures { λ r. ⌜ ((lits : List ℕ) →
+        let before = sessionOf n (length (now (ends .entry))) lits (now (values .entry)) (now (levels .entry)) (now (reasons .entry)) (now (trail .entry)) (now (opened .entry)) (now (next .entry)) (now (prev .entry)) (now (ts .entry)) (s .state) in
+        let after = sessionOf n (length (now (ends .entry))) lits (now (values .exit)) (now (levels .exit)) (now (reasons .exit)) (now (trail .exit)) (now (opened .exit)) (now (next .exit)) (now (prev .exit)) (now (ts .exit)) (r .state) in
+        ListAlong n lits (now (ends .entry)) (now (sheet .entry)) (s .place) before (now (out .entry)) (r .place) after (now (out .exit))) ⌝ }
 {
     let p = s.place;
     let from = p.from;

@@ -30,11 +30,9 @@ pub fn list_lines(
 ) -> usize
     requires { ⌜ Room (now sheet) (s .place) (now out) × (length (now ends) ≤ number.maxClauses) ⌝ }
     requires { ⌜ GoodSession n (length (now ends)) (trailOf (now values) (now levels) (now reasons) (now trail) (now opened) (s .state .trail)) (vmtfOf (now next) (now prev) (now ts) (s .state .vmtf)) ⌝ }
-    ensures { λ r. ⌜ ((lits : List ℕ) → Ended (now (sheet .entry)) (s .place)
-        (inList n lits (now (ends .entry)) (sessionOf n (length (now (ends .entry))) lits (now (values .entry)) (now (levels .entry)) (now (reasons .entry)) (now (trail .entry)) (now (opened .entry)) (now (next .entry)) (now (prev .entry)) (now (ts .entry)) (s .state)))
-        (now (out .entry))
-        r
-        (now (out .exit))) ⌝ }
+    ensures { λ r. ⌜ ((lits : List ℕ) →
+        let before = sessionOf n (length (now (ends .entry))) lits (now (values .entry)) (now (levels .entry)) (now (reasons .entry)) (now (trail .entry)) (now (opened .entry)) (now (next .entry)) (now (prev .entry)) (now (ts .entry)) (s .state) in
+        Ended (now (sheet .entry)) (s .place) (inList n lits (now (ends .entry)) before) (now (out .entry)) r (now (out .exit))) ⌝ }
 {
     let mut u = s;
     let mut left = s.place.left;

@@ -1,5 +1,4 @@
 -- `desk::run` meets its contract: refusals 1 and 2, a sheet without lines, and the answers.
-use Prim.Native.Nat.{_<_, _≤_}
 use mathlib.Core.Path.{sym, _∙_}
 use native.Mathlib.Omega.{arith}
 use Rattle.forms.specs.Text.{newline}

@@ -1,7 +1,6 @@
 -- `heap_sheet::from_fresh` meets its contract: a fresh session is good, so the check lets it through, and its lines are answered.
-use Prim.Native.Nat.{ℕ}
-use mathlib.Core.Path.{_≡_, refl, sym, subst, _∙_}
-use mathlib.Core.Bool.{true, true≢false}
+use mathlib.Core.Path.{refl, sym, subst, _∙_}
+use mathlib.Core.Bool.{true≢false}
 use native.Mathlib.Omega.{arith}
 use borrow.Author.Tests.{not-true}
 use Rattle.sheet.specs.Stages.{Stage}

@@ -1,6 +1,6 @@
 -- `list_sheet::start` meets its contract: the slices have the lengths that creation needs, and what it makes passes the check.
 use Prim.Native.Nat.{ℕ}
-use mathlib.Core.Path.{refl, sym, ap, _∙_}
+use mathlib.Core.Path.{sym, ap, _∙_}
 use native.Mathlib.Omega.{arith}
 use Rattle.trail.specs.Trail.{freshTrail}
 use Rattle.vmtf.specs.Vmtf.{new}

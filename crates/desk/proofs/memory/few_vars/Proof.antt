@@ -1,5 +1,5 @@
 -- `desk::memory::few_vars` meets its contract: the mode tells the number.
-use mathlib.Core.Path.{_≡_, refl}
+use mathlib.Core.Path.{_≡_}
 use mathlib.Core.Bool.{true, false}
 use borrow.Author.Needs.{needs}
 use Rattle.desk.proofs.memory.few_vars.Statement.{statement}

@@ -3,7 +3,6 @@ use mathlib.Core.Path.{_∙_}
 use Prim.Native.Nat.{_≤_, _<_}
 use native.Mathlib.Omega.{arith}
 use Rattle.lit.specs.Numbers.{maxVars}
-use Rattle.sheet.specs.Running.{linesFrom}
 use Rattle.sheet.specs.Steps.{line-inside}
 use Rattle.desk.specs.Opening.{first-fits, first-room, first-refused, first-opened}
 use Rattle.desk.specs.Positions.{untouched}
