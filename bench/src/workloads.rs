@@ -155,7 +155,7 @@ fn made_with_clauses(num_vars: usize, mode: &str) -> String {
 /// it most.
 pub fn growth() -> Vec<Workload> {
     let sizes = [64, 256, 1024, 2048];
-    let made = [3, 16, 64, 65, 129, 256, 321, 1024, 1153, 1281, 2048];
+    let made = [3, 16, 64, 65, 129, 256, 321, 385, 1024, 1153, 1345, 2048];
     let mut all = Vec::new();
     let mut add = |name: &str, sizes: &[usize], sheet: &dyn Fn(usize) -> String| {
         all.extend(sizes.iter().map(|&n| Workload::new(format!("{name}, N = {n}"), sheet(n))));

@@ -188,7 +188,7 @@ fn short_lines(
 }
 
 // How many variables the shorter array of positions has room for.
-const FEW: u32 = 320;
+const FEW: u32 = 384;
 
 // The lines behind the first, on positions set up for them: few for few variables on a short sheet.
 fn own_positions(sheet: &[u8], out: &mut [u8], heap: bool, n: u32, p: Place) -> usize

@@ -3,10 +3,10 @@ use Prim.Native.Nat.{ℕ, _+_}
 use Rattle.lit.specs.Numbers.{maxVars}
 
 abbrev pub few : ℕ
-few = 320
+few = 384
 
 abbrev pub many : ℕ
-many = 1280
+many = 1344
 
 -- and the longest
 abbrev pub all : ℕ

@@ -133,9 +133,9 @@ fn in_arrays(
 }
 
 // How many variables the shorter arrays of a session have room for: setting up long ones costs more than a short run.
-pub const FEW: u32 = 320;
+pub const FEW: u32 = 384;
 
-const MANY: u32 = 1280;
+const MANY: u32 = 1344;
 
 // And the longest, for as many as there may be: a cache line more, so that the arrays do not all begin at the same place of the cache.
 const ALL: u32 = MAX_VARS + 16;
