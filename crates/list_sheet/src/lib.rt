@@ -168,12 +168,45 @@ fn in_arrays(
 }
 
 // How many variables the shorter arrays of a session have room for: setting up long ones costs more than a short run.
+const FEWEST: u32 = 32;
+
 pub const FEW: u32 = 128;
 
 // And the longest, for as many as there may be: a cache line more, so that the arrays do not all begin at the same place of the cache.
 const ALL: u32 = MAX_VARS + 16;
 
-// Does the lines from a place on in a session of few variables, and gives the place behind their answers. Without a line no session is made.
+// Does the lines from a place on in a session of the fewest variables, and gives the place behind their answers.
+fn in_fewest(sheet: &[u8], out: &mut [u8], n: u32, lits: &[u32], ends: &[u32], p: Place) -> usize
+    requires { ⌜ Room (now sheet) p (now out) × (n ≤ size.fewest) × GoodClauses n (now lits) (now ends) ⌝ }
+    ensures { λ r. ⌜ Ended (now (sheet .entry)) p (spec.opened vmtf n (now (lits .entry)) (now (ends .entry))) (now (out .entry)) r (now (out .exit)) ⌝ }
+{
+    let mut values = [UNASSIGNED; FEWEST as usize];
+    let mut levels = [NONE; FEWEST as usize];
+    let mut reasons = [NONE; FEWEST as usize];
+    let mut trail = [NONE; FEWEST as usize];
+    let mut opened = [NONE; FEWEST as usize];
+    let mut next = [NONE; FEWEST as usize];
+    let mut prev = [NONE; FEWEST as usize];
+    let mut ts = [0u64; FEWEST as usize];
+    in_arrays(
+        sheet,
+        out,
+        n,
+        lits,
+        ends,
+        &mut values,
+        &mut levels,
+        &mut reasons,
+        &mut trail,
+        &mut opened,
+        &mut next,
+        &mut prev,
+        &mut ts,
+        p,
+    )
+}
+
+// The same with few variables. Without a line no session is made.
 pub fn answer_few(
     sheet: &[u8],
     out: &mut [u8],
@@ -187,6 +220,9 @@ pub fn answer_few(
 {
     if place.left == 0 {
         return place.at;
+    }
+    if n <= FEWEST {
+        return in_fewest(sheet, out, n, lits, ends, place);
     }
     let mut values = [UNASSIGNED; FEW as usize];
     let mut levels = [NONE; FEW as usize];
