@@ -9,7 +9,7 @@ ghost use Rattle.session.specs.Entry.{Answered};
 ghost use Rattle.list_session.specs.Memory.{sessionOf};
 ghost use Rattle.vmtf.specs.Good.{InOrder};
 ghost use Rattle.forms.specs.Read.{Fits, groupOn};
-ghost use Rattle.sheet.specs.Stages.{called};
+ghost use Rattle.book.specs.Read.{called};
 use forms::Count;
 use forms::FEW;
 use forms::MANY;

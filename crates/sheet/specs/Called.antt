@@ -16,7 +16,7 @@ use Rattle.forms.specs.declared.Count as count
 use Rattle.forms.specs.declared.Count.the-variants as a-count
 use Rattle.forms.specs.Forms.{callIn}
 use Rattle.forms.specs.Read.{callRead, CallRead, groupOn, groupRead, GroupRead}
-use Rattle.sheet.specs.Stages.{called}
+use Rattle.book.specs.Read.{called}
 
 -- a line by what was read of it
 module _ {line : List ℕ} {r : read.Read} (h : CallRead line r) {n m : ℕ} {O : Operations} {s : Session n m O} where
