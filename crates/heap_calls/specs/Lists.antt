@@ -2,7 +2,7 @@
 use Prim.Native.Nat.{ℕ, _+_, _<_}
 use mathlib.Core.Path.{_≡_}
 use mathlib.Core.List.{List, [], _∷_}
-use mathlib.Core.Bool.{true}
+use mathlib.Core.Option.{none}
 use lib.ListN.{length}
 use Rattle.choosers.specs.Heap.{heapOps}
 use Rattle.book.specs.Session.{Result, done, status, Session}
@@ -22,7 +22,7 @@ module _ (n m : ℕ) (lits : List ℕ) (literals : ℕ) (ends vars : List ℕ) w
 
   -- an accepted list comes to what its calls come to, each in a list of its own and checked every time
   pub alone : (ws : List ℕ) (answers : ℕ) (s : Session n m (heapOps n lits ends)) → Doubles (s .chooser) → status (enteredWords ws answers s) ≡ 0
-      → enteredWords ws answers s ≡ done _ (words.eachAlone n m (heapMode n m lits ends) lits literals ends vars ws s)
+      → enteredWords ws answers s ≡ done none (words.eachAlone n m (heapMode n m lits ends) lits literals ends vars ws s)
   unfolding heap-sound
   alone = either.alone n m (heapMode n m lits ends) lits literals ends vars (heap-sound n m lits ends)
 
