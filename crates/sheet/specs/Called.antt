@@ -3,7 +3,7 @@ use Prim.Native.Nat.{ℕ, _≤_}
 use mathlib.Core.Path.{_≡_, refl, sym, ap, _∙_}
 use mathlib.Core.List.{List, []}
 use lib.ListN.{length, take}
-use Rattle.lit.specs.Numbers.{NONE, badLine}
+use Rattle.lit.specs.Numbers.{NONE, maxGroup, badLine}
 use Rattle.book.specs.Calls.{group}
 use Rattle.book.specs.Chooser.{Operations}
 use Rattle.book.specs.Session.{Session, call}
@@ -36,6 +36,9 @@ module _ {line : List ℕ} {r : read.Read} (h : CallRead line r) {n m : ℕ} {O 
 module _ {line vars : List ℕ} {r : count.Count} (h : GroupRead line r vars) where
   pub group-within : {k : ℕ} → r ≡ a-count.Are k → k ≤ length vars
   group-within e = rw e at (h .within)
+
+  pub group-few : {k : ℕ} → r ≡ a-count.Are k → k ≤ maxGroup
+  group-few e = rw e at (h .few)
 
   module _ {n m : ℕ} {O : Operations} {s : Session n m O} where
     pub group-refused : r ≡ a-count.Bad → Answered (called n m O s (groupOn line)) s badLine NONE s
