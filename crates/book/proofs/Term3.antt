@@ -146,7 +146,8 @@ module _ (n m : ℕ) (O : Operations) (C : Chooser n m O) where
         };
       }
 
-  ran : (r : Run n m O) (calls : List Call) → Inv r → Inv (run n m O r calls)
+  -- so every run keeps it
+  pub ran : (r : Run n m O) (calls : List Call) → Inv r → Inv (run n m O r calls)
   unfolding run
   ran r [] i = i
   ran r (c ∷ cs) i = ran (step n m O r c) cs (stepped r c i)

@@ -10,7 +10,8 @@ use Rattle.forms.specs.Letters.{bumpLetter, decideLetter, goBackLetter, clauseL
 use Rattle.forms.specs.Text.{tab, newline}
 use Rattle.forms.specs.Text as text
 use Rattle.forms.specs.Forms as forms
-use Rattle.sheet.specs.Sheet.{answerLine, callsOf, logged, clauseLines, listed, clauseAnswers, behindFirst, answered, ran}
+use Rattle.book.specs.Read.{callsOf}
+use Rattle.sheet.specs.Sheet.{answerLine, logged, clauseLines, listed, clauseAnswers, behindFirst, answered, ran}
 use Rattle.cases.specs.Definitions.{definitions}
 
 -- lines, each with a newline behind it

@@ -40,10 +40,11 @@ abbrev pub groupCount : count.Count → ℕ
 groupCount a-count.Bad = 0
 groupCount (a-count.Are k) = k
 
--- What was read is the group behind the line's letter, if one is there, and its variables stand in vars.
+-- What was read is the group behind the line's letter, if one is there, and its variables stand in vars and are not too many.
 pub record GroupRead (line : List ℕ) (r : count.Count) (vars : List ℕ) : Type 0 where
   pub is : groupRead r vars ≡ groupOn line
   pub within : groupCount r ≤ length vars
+  pub few : groupCount r ≤ maxGroup
 
 -- Any group that a line has room for fits in vars: a variable takes two bytes at least.
 pub record Fits (line vars : List ℕ) : Type 0 where

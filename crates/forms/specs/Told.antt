@@ -81,15 +81,15 @@ module _ (line vars : List ℕ) where
   group-of = given-twice (behind (drop 1 line)) numbers grouped
 
   pub group-bad : listed ≡ none → GroupRead line a-count.Bad vars
-  group-bad e = record { is = sym (group-of ∙ rw e); within = omega arith }
+  group-bad e = record { is = sym (group-of ∙ rw e); within = omega arith; few = omega arith }
 
   module _ {k : ℕ} (h : Held listed k vars) where
     pub group-long : maxGroup < k → GroupRead line a-count.Bad vars
     unfolding grouped
-    group-long l = record { is = sym (group-of ∙ rw (h .is, h .count, lt-leb k maxGroup l)); within = omega arith }
+    group-long l = record { is = sym (group-of ∙ rw (h .is, h .count, lt-leb k maxGroup l)); within = omega arith; few = omega arith }
 
     pub group-is : k ≤ maxGroup → {lent : List ℕ} → Fits line lent → length vars ≡ length lent → GroupRead line (a-count.Are k) vars
     unfolding grouped
     group-is l f e =
         let within : k ≤ length vars = omega (arith, f .fits k l (omega (arith, listed-short line (h .numbers) (h .is), h .count))) in
-        record { is = ap (λ (vs : List ℕ). some (group vs)) (h .held within) ∙ sym (group-of ∙ rw (h .is, h .count, le-leb k maxGroup l)); within = within }
+        record { is = ap (λ (vs : List ℕ). some (group vs)) (h .held within) ∙ sym (group-of ∙ rw (h .is, h .count, le-leb k maxGroup l)); within = within; few = l }

@@ -7,7 +7,7 @@ use Rattle.choosers.specs.Heap.{heapOps}
 use Rattle.book.specs.Session.{status, leaves, Session, call}
 use Rattle.session.specs.Asked.{Asked, asked}
 use Rattle.session.specs.Entered as either
-use Rattle.session.specs.Entered.{GoodMemory}
+use Rattle.session.specs.Entered.{RightScratch, GoodMemory}
 use Rattle.heap_entry.specs.Entry.{heapMode, entered, made}
 use Rattle.heap_entry.specs.Kept.{IsGood}
 use Rattle.heap_entry.specs.Checked.{Doubles, heap-sound}
@@ -15,12 +15,12 @@ use Rattle.heap_entry.specs.Checked.{Doubles, heap-sound}
 module _ (n m : ℕ) (lits : List ℕ) (literals : ℕ) (ends : List ℕ) where
   module _ (a : Asked) (s : Session n m (heapOps n lits ends)) where
     -- on good memory the checked call is the call
-    pub unchecked : GoodMemory (IsGood n m lits ends) lits literals ends a s → entered n m lits literals ends a s ≡ call n m (heapOps n lits ends) s (asked a)
+    pub unchecked : GoodMemory (IsGood n m lits ends) lits literals ends s → RightScratch a → entered n m lits literals ends a s ≡ call n m (heapOps n lits ends) s (asked a)
     unfolding heap-sound
     unchecked = either.unchecked n m (heapMode n m lits ends) lits literals ends (heap-sound n m lits ends) a s
 
     -- what is not refused had good memory
-    pub bad-refused : Doubles (s .chooser) → status (entered n m lits literals ends a s) ≡ 0 → GoodMemory (IsGood n m lits ends) lits literals ends a s
+    pub bad-refused : Doubles (s .chooser) → status (entered n m lits literals ends a s) ≡ 0 → GoodMemory (IsGood n m lits ends) lits literals ends s × RightScratch a
     unfolding heap-sound
     bad-refused = either.bad-refused n m (heapMode n m lits ends) lits literals ends (heap-sound n m lits ends) a s
 

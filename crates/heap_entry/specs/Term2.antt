@@ -51,9 +51,9 @@ module _ (n m : ℕ) (lits : List ℕ) (literals : ℕ) (ends : List ℕ) where
     unfolding heap-sound
     decided-highest p v e r =
         let g = bad-refused n m lits literals ends a s doubles accepted in
-        let k = chosen p v (rw (unchecked n m lits literals ends a s g, e) at r) in
-        let c = chose-right (s .chooser) (g .session .heap) (k .1) in
-        record { var = c .var; is-open = c .is-open; no-lower = chosen-highest (g .session .heap) c }
+        let k = chosen p v (rw (unchecked n m lits literals ends a s (g .0) (g .1), e) at r) in
+        let c = chose-right (s .chooser) (g .0 .session .heap) (k .1) in
+        record { var = c .var; is-open = c .is-open; no-lower = chosen-highest (g .0 .session .heap) c }
 
   -- and so they are in a fresh session
   pub made-inverse : (s : Session n m (heapOps n lits ends)) → status (made n m lits literals ends s) ≡ 0 → let u = leaves s (made n m lits literals ends s) in

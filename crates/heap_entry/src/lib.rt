@@ -68,7 +68,7 @@ pub fn lengths_ok(
 }
 
 // The refusal of a session that was lent, or 0.
-fn refusal(
+pub fn refusal(
     n: u32,
     literals: u32,
     clauses: u32,

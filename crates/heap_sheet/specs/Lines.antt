@@ -7,14 +7,15 @@ use Rattle.choosers.specs.Heap.{heapOps}
 use Rattle.book.specs.Session.{Session}
 use Rattle.session.specs.Entry.{Answered}
 use Rattle.heap_entry.specs.Kept.{IsGood, kept}
+use Rattle.book.specs.Read.{called, called-kept}
 use Rattle.forms.specs.Forms.{callIn}
 use Rattle.sheet.specs.declared.Place.{Place}
 use Rattle.sheet.specs.Sheet.{answerLine}
-use Rattle.sheet.specs.Stages.{called, inHeap}
+use Rattle.sheet.specs.Stages.{inHeap}
 use Rattle.sheet.specs.Writing.{Wrote, replyOf}
 use Rattle.sheet.specs.Replies.{heap-reply}
 use Rattle.sheet.specs.Running.{lineLength, lineFrom, after, Room}
-use Rattle.sheet.specs.SessionLines.{Along, Mode, called-kept, along-one}
+use Rattle.sheet.specs.SessionLines.{Along, Mode, along-one}
 
 module _ (n : ℕ) (lits ends : List ℕ) where
   -- lines are answered from one session on up to another

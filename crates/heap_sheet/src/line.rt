@@ -12,7 +12,7 @@ ghost use Rattle.heap_session.specs.Memory.{sessionOf};
 ghost use Rattle.heap_session.specs.Good.{GoodSession};
 ghost use Rattle.forms.specs.Forms.{callIn};
 ghost use Rattle.forms.specs.Read.{groupOn, Fits};
-ghost use Rattle.sheet.specs.Stages.{called};
+ghost use Rattle.book.specs.Read.{called};
 ghost use Rattle.sheet.specs.Running.{Room};
 ghost use Rattle.heap_sheet.specs.Lines.{HeapAlong};
 use forms::Count;

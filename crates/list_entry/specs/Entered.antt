@@ -7,7 +7,7 @@ use Rattle.choosers.specs.List.{listOps}
 use Rattle.book.specs.Session.{status, leaves, Session, call}
 use Rattle.session.specs.Asked.{Asked, asked}
 use Rattle.session.specs.Entered as either
-use Rattle.session.specs.Entered.{GoodMemory}
+use Rattle.session.specs.Entered.{RightScratch, GoodMemory}
 use Rattle.list_session.specs.Kept.{IsGood}
 use Rattle.list_entry.specs.Entry.{listMode, entered, made}
 use Rattle.list_entry.specs.Checked.{list-sound}
@@ -15,12 +15,12 @@ use Rattle.list_entry.specs.Checked.{list-sound}
 module _ (n m : ℕ) (lits : List ℕ) (literals : ℕ) (ends : List ℕ) where
   module _ (a : Asked) (s : Session n m (listOps n lits)) where
     -- on good memory the checked call is the call
-    pub unchecked : GoodMemory (IsGood n m lits) lits literals ends a s → entered n m lits literals ends a s ≡ call n m (listOps n lits) s (asked a)
+    pub unchecked : GoodMemory (IsGood n m lits) lits literals ends s → RightScratch a → entered n m lits literals ends a s ≡ call n m (listOps n lits) s (asked a)
     unfolding list-sound
     unchecked = either.unchecked n m (listMode n m lits) lits literals ends (list-sound n m lits ends) a s
 
     -- what is not refused had good memory
-    pub bad-refused : status (entered n m lits literals ends a s) ≡ 0 → GoodMemory (IsGood n m lits) lits literals ends a s
+    pub bad-refused : status (entered n m lits literals ends a s) ≡ 0 → GoodMemory (IsGood n m lits) lits literals ends s × RightScratch a
     unfolding list-sound
     bad-refused = either.bad-refused n m (listMode n m lits) lits literals ends (list-sound n m lits ends) a s tt
 

@@ -1,6 +1,6 @@
 -- The entry points of list mode: the tests they make of memory as lent, and what they answer.
 use Prim.Native.Nat.{ℕ}
-use mathlib.Core.Bool.{Bool, _&&_}
+use mathlib.Core.Bool.{Bool, true, _&&_}
 use mathlib.Core.List.{List}
 use lib.ListN.{length}
 use lib.Dec.{eqb}
@@ -29,6 +29,10 @@ entered n m lits literals ends = mode.entered n m (listMode n m lits) lits liter
 -- a fresh session in the memory as lent, with two scratch slices of length n
 abbrev pub made : (n m : ℕ) (lits : List ℕ) → ℕ → List ℕ → List ℕ → List ℕ → Session n m (listOps n lits) → Result (Session n m (listOps n lits))
 made n m lits literals ends counts indexes = mode.made n m (listMode n m lits) lits literals ends (scratchLengths n (length counts) (length indexes))
+
+-- the same without lent scratch
+abbrev pub madeAlone : (n m : ℕ) (lits : List ℕ) → ℕ → List ℕ → Session n m (listOps n lits) → Result (Session n m (listOps n lits))
+madeAlone n m lits literals ends = mode.made n m (listMode n m lits) lits literals ends true
 
 -- DECISIONS 26: the small states that come back where no session was made
 abbrev pub blank : ListState

@@ -1,6 +1,7 @@
 -- Term 3 in list mode, on the entry points' own definition.
 use Prim.Native.Nat.{ℕ, _≤_}
 use mathlib.Core.Path.{_≡_, refl, subst}
+use mathlib.Core.Bool.{Bool, true}
 use mathlib.Core.List.{List}
 use native.Mathlib.Omega.{arith}
 use lib.ListN.{length}
@@ -14,9 +15,9 @@ use Rattle.session.specs.Entered as either
 use Rattle.session.specs.Entered.{RightScratch, Founded}
 use Rattle.session.specs.Mode.{Mode, scratchLengths}
 use Rattle.session.specs.Runs as runs
-use Rattle.session.specs.Runs.{runLent, FoundedBy, Family}
+use Rattle.session.specs.Runs.{runLent, runLists, FoundedBy, Family}
 use Rattle.list_session.specs.Kept.{IsGood}
-use Rattle.list_entry.specs.Entry.{listMode, entered, made}
+use Rattle.list_entry.specs.Entry.{listMode, entered, made, madeAlone}
 use Rattle.list_entry.specs.Checked.{list-sound}
 
 -- the mode over what is lent
@@ -51,6 +52,13 @@ module _ (g : Lending) where
   pub list-term3 : FoundedBy g → (asks : List (Lending × Asked))
       → Claim (g .n) (g .m) (listOps (g .n) (g .lits)) (runLent listOver (λ g h c. c) g (begin (g .n) (g .m) (listOps (g .n) (g .lits))) asks)
   list-term3 = runs.lent-term3 listOver (λ g h c. c) list-family g
+
+  -- and over any number of lists of calls in a row, each checked once and with whatever it is lent with
+  pub made-lists-term3 : (s : Session (g .n) (g .m) (listOps (g .n) (g .lits))) → status (madeAlone (g .n) (g .m) (g .lits) (g .literals) (g .ends) s) ≡ 0
+      → (lists : List (Lending × Bool × List Call))
+      → let r = startingWith (g .n) (g .m) (listOps (g .n) (g .lits)) (leaves s (madeAlone (g .n) (g .m) (g .lits) (g .literals) (g .ends) s)) in
+      Claim (g .n) (g .m) (listOps (g .n) (g .lits)) (runLists listOver (λ g h c. c) g r lists)
+  made-lists-term3 = runs.made-lists-term3 listOver (λ g h c. c) list-family g true
 
 module _ (n m : ℕ) (lits : List ℕ) (literals : ℕ) (ends : List ℕ) where
   -- an accepted creation makes the session that `begin` has

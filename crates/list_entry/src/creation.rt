@@ -3,7 +3,7 @@ ghost use mathlib.Core.Path.{_≡_};
 ghost use lib.Dec.{eqb};
 ghost use Rattle.session.specs.Entry.{Answered};
 ghost use Rattle.list_session.specs.Memory.{sessionOf, cleared};
-ghost use Rattle.list_entry.specs.Entry.{made, blank};
+ghost use Rattle.list_entry.specs.Entry.{made, madeAlone, blank};
 use crate::lengths_ok;
 use list_session::ListAnswer;
 use list_session::ListState;
@@ -86,5 +86,55 @@ pub fn fresh(
     }
     let t = trail::new_trail(values, levels, reasons, trail, opened);
     let l = move_to_front::creation::new(lits, next, prev, ts, counts, indexes);
+    accept(NONE, ListState { trail: t, vmtf: l })
+}
+
+// The same with the levels and the reasons as scratch, before they are made fresh.
+pub fn fresh_alone(
+    n: u32,
+    literals: u32,
+    clauses: u32,
+    lits: &[u32],
+    ends: &[u32],
+    values: &mut [u8],
+    levels: &mut [u32],
+    reasons: &mut [u32],
+    trail: &mut [u32],
+    opened: &mut [u32],
+    next: &mut [u32],
+    prev: &mut [u32],
+    ts: &mut [u64],
+) -> ListAnswer
+    ensures { λ r.
+        let before = sessionOf n clauses (now (lits .entry))
+        (now (values .entry)) (now (levels .entry)) (now (reasons .entry)) (now (trail .entry)) (now (opened .entry))
+        (now (next .entry)) (now (prev .entry)) (now (ts .entry)) blank in
+        let after = sessionOf n clauses (now (lits .entry))
+        (now (values .exit)) (now (levels .exit)) (now (reasons .exit)) (now (trail .exit)) (now (opened .exit))
+        (now (next .exit)) (now (prev .exit)) (now (ts .exit)) (r .state) in
+        ⌜ Answered (madeAlone n clauses (now (lits .entry)) literals (now (ends .entry)) before) before (r .status) (r .reply) after ⌝ }
+{
+    let lengths = lengths_ok(
+        n,
+        literals,
+        clauses,
+        lits,
+        ends,
+        values,
+        levels,
+        reasons,
+        trail,
+        opened,
+        next,
+        prev,
+        ts,
+        true,
+    );
+    let k = session::entry::size_refusal(n, lengths, lits, ends);
+    if k != 0 {
+        return refuse(k, blank_state());
+    }
+    let l = move_to_front::creation::new(lits, next, prev, ts, levels, reasons);
+    let t = trail::new_trail(values, levels, reasons, trail, opened);
     accept(NONE, ListState { trail: t, vmtf: l })
 }

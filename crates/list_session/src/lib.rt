@@ -2,7 +2,7 @@
 ghost use mathlib.Core.Path.{_≡_};
 ghost use mathlib.Core.Bool.{cond};
 ghost use mathlib.Core.List.{List};
-ghost use Prim.Native.Nat.{ℕ};
+ghost use Prim.Native.Nat.{ℕ, _≤_};
 ghost use lib.ListN.{length};
 ghost use lib.Dec.{eqb};
 ghost use Rattle.lit.specs.Numbers as number;
@@ -13,6 +13,7 @@ ghost use Rattle.list_session.specs.Memory.{sessionOf, answer, Answers, 
 ghost use Rattle.vmtf.specs.Good.{InOrder};
 ghost use Rattle.list_session.specs.Good.{Choosable};
 use lit::BAD_POLARITY;
+use lit::MAX_GROUP;
 use lit::NO_VARIABLE;
 use lit::NONE;
 use lit::PAST_OPEN;
@@ -140,6 +141,77 @@ pub fn group(
     let l = s.vmtf;
     let u = move_to_front::bump_vec_of_vars(next, prev, ts, l, vars, stamps, order);
     accept(NONE, ListState { trail: t, vmtf: u })
+}
+
+// The same with scratch that has room for the group.
+fn group_within(
+    n: u32,
+    next: &mut [u32],
+    prev: &mut [u32],
+    ts: &mut [u64],
+    s: ListState,
+    vars: &[u32],
+    stamps: &mut [u64],
+    order: &mut [u32],
+) -> ListAnswer
+    requires { ⌜ InOrder n (vmtfOf (now next) (now prev) (now ts) (s .vmtf)) ⌝ }
+    requires { ⌜ (length (now vars) ≤ length (now stamps)) × (length (now vars) ≤ length (now order)) ⌝ }
+    ensures { λ r. ⌜ ((m : ℕ) (lits values levels reasons trail opened : List ℕ) →
+        let with = sessionOf n m lits values levels reasons trail opened in
+        let before = with (now (next .entry)) (now (prev .entry)) (now (ts .entry)) s in
+        let after = with (now (next .exit)) (now (prev .exit)) (now (ts .exit)) (r .state) in
+        Answers n m lits (book.group (now (vars .entry))) before r after) ⌝ }
+{
+    let k = vars.len();
+    group(
+        n,
+        next,
+        prev,
+        ts,
+        s,
+        vars,
+        &mut stamps[..k],
+        &mut order[..k],
+    )
+}
+
+// How many variables the scratch of a group has room for: setting up long arrays costs more than a short group. `MANY` is enough for any.
+const FEW: usize = 64;
+
+const SOME: usize = 512;
+
+const MANY: usize = MAX_GROUP as usize;
+
+// The same with scratch of its own.
+pub fn group_alone(
+    n: u32,
+    next: &mut [u32],
+    prev: &mut [u32],
+    ts: &mut [u64],
+    s: ListState,
+    vars: &[u32],
+) -> ListAnswer
+    requires { ⌜ InOrder n (vmtfOf (now next) (now prev) (now ts) (s .vmtf)) ⌝ }
+    requires { ⌜ length (now vars) ≤ number.maxGroup ⌝ }
+    ensures { λ r. ⌜ ((m : ℕ) (lits values levels reasons trail opened : List ℕ) →
+        let with = sessionOf n m lits values levels reasons trail opened in
+        let before = with (now (next .entry)) (now (prev .entry)) (now (ts .entry)) s in
+        let after = with (now (next .exit)) (now (prev .exit)) (now (ts .exit)) (r .state) in
+        Answers n m lits (book.group (now (vars .entry))) before r after) ⌝ }
+{
+    if vars.len() <= FEW {
+        let mut stamps = [0u64; FEW];
+        let mut order = [NONE; FEW];
+        return group_within(n, next, prev, ts, s, vars, &mut stamps, &mut order);
+    }
+    if vars.len() <= SOME {
+        let mut stamps = [0u64; SOME];
+        let mut order = [NONE; SOME];
+        return group_within(n, next, prev, ts, s, vars, &mut stamps, &mut order);
+    }
+    let mut stamps = [0u64; MANY];
+    let mut order = [NONE; MANY];
+    group_within(n, next, prev, ts, s, vars, &mut stamps, &mut order)
 }
 
 // What a call on the trail alone answers; the list stays.

@@ -8,14 +8,15 @@ use Rattle.book.specs.Session.{Session}
 use Rattle.session.specs.Entry.{Answered}
 use Rattle.list_session.specs.Kept.{IsGood}
 use Rattle.list_entry.specs.Checked.{kept}
+use Rattle.book.specs.Read.{called, called-kept}
 use Rattle.forms.specs.Forms.{callIn}
 use Rattle.sheet.specs.declared.Place.{Place}
 use Rattle.sheet.specs.Sheet.{answerLine}
-use Rattle.sheet.specs.Stages.{called, inList}
+use Rattle.sheet.specs.Stages.{inList}
 use Rattle.sheet.specs.Writing.{Wrote, replyOf}
 use Rattle.sheet.specs.Replies.{list-reply}
 use Rattle.sheet.specs.Running.{lineLength, lineFrom, after, Room}
-use Rattle.sheet.specs.SessionLines.{Along, Mode, called-kept, along-one}
+use Rattle.sheet.specs.SessionLines.{Along, Mode, along-one}
 
 module _ (n : ℕ) (lits ends : List ℕ) where
   -- lines are answered from one session on up to another

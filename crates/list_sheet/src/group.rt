@@ -9,7 +9,7 @@ ghost use Rattle.session.specs.Entry.{Answered};
 ghost use Rattle.list_session.specs.Memory.{sessionOf};
 ghost use Rattle.vmtf.specs.Good.{InOrder};
 ghost use Rattle.forms.specs.Read.{Fits, groupOn};
-ghost use Rattle.sheet.specs.Stages.{called};
+ghost use Rattle.book.specs.Read.{called};
 use forms::Count;
 use forms::FEW;
 use forms::MANY;
@@ -19,7 +19,7 @@ use list_session::ListState;
 use lit::BAD_LINE;
 use lit::NONE;
 
-// Moves the group that a line is to the front of the list, or refusal 3. The variables, stamps and order are scratch.
+// Moves the group that a line is to the front of the list, or refusal 3. The variables are read into scratch.
 fn group_with(
     line: &[u8],
     n: u32,
@@ -28,11 +28,9 @@ fn group_with(
     ts: &mut [u64],
     s: ListState,
     vars: &mut [u32],
-    stamps: &mut [u64],
-    order: &mut [u32],
 ) -> ListAnswer
     requires { ⌜ InOrder n (vmtfOf (now next) (now prev) (now ts) (s .vmtf)) ⌝ }
-    requires { ⌜ Fits (now line) (now vars) × (length (now stamps) ≡ length (now vars)) × (length (now order) ≡ length (now vars)) ⌝ }
+    requires { ⌜ Fits (now line) (now vars) ⌝ }
     ensures { λ r. ⌜ ((m : ℕ) (lits values levels reasons trail opened : List ℕ) →
         let before = sessionOf n m lits values levels reasons trail opened (now (next .entry)) (now (prev .entry)) (now (ts .entry)) s in
         let after = sessionOf n m lits values levels reasons trail opened (now (next .exit)) (now (prev .exit)) (now (ts .exit)) (r .state) in
@@ -41,16 +39,7 @@ fn group_with(
     let Count::Are(k) = forms::read_group(line, vars) else {
         return list_session::refuse(BAD_LINE, s);
     };
-    list_session::group(
-        n,
-        next,
-        prev,
-        ts,
-        s,
-        &vars[..k],
-        &mut stamps[..k],
-        &mut order[..k],
-    )
+    list_session::group_alone(n, next, prev, ts, s, &vars[..k])
 }
 
 // The same with scratch of its own, as long as the line may need.
@@ -70,48 +59,12 @@ pub fn group_line(
 {
     if line.len() <= 2 * FEW {
         let mut vars = [NONE; FEW];
-        let mut stamps = [0u64; FEW];
-        let mut order = [NONE; FEW];
-        return group_with(
-            line,
-            n,
-            next,
-            prev,
-            ts,
-            s,
-            &mut vars,
-            &mut stamps,
-            &mut order,
-        );
+        return group_with(line, n, next, prev, ts, s, &mut vars);
     }
     if line.len() <= 2 * SOME {
         let mut vars = [NONE; SOME];
-        let mut stamps = [0u64; SOME];
-        let mut order = [NONE; SOME];
-        return group_with(
-            line,
-            n,
-            next,
-            prev,
-            ts,
-            s,
-            &mut vars,
-            &mut stamps,
-            &mut order,
-        );
+        return group_with(line, n, next, prev, ts, s, &mut vars);
     }
     let mut vars = [NONE; MANY];
-    let mut stamps = [0u64; MANY];
-    let mut order = [NONE; MANY];
-    group_with(
-        line,
-        n,
-        next,
-        prev,
-        ts,
-        s,
-        &mut vars,
-        &mut stamps,
-        &mut order,
-    )
+    group_with(line, n, next, prev, ts, s, &mut vars)
 }

@@ -11,7 +11,7 @@ ghost use Rattle.session.specs.Entry.{Answered};
 ghost use Rattle.list_session.specs.Memory.{sessionOf};
 ghost use Rattle.list_session.specs.Good.{GoodSession};
 ghost use Rattle.forms.specs.Forms.{callIn};
-ghost use Rattle.sheet.specs.Stages.{called};
+ghost use Rattle.book.specs.Read.{called};
 ghost use Rattle.sheet.specs.Running.{Room};
 ghost use Rattle.list_sheet.specs.Lines.{ListAlong};
 use crate::group::group_line;

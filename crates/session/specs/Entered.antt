@@ -47,11 +47,10 @@ pub record Founded (n m : ℕ) (lits ends : List ℕ) : Type 0 where
   pub stated : length ends ≡ m
   pub clauses : GoodClauses n lits ends
 
--- the memory that was lent is good: the clause list with its stated counts, a group's scratch, and the session
-pub record GoodMemory {n m : ℕ} {O : Operations} (Good : Session n m O → Type 0) (lits : List ℕ) (literals : ℕ) (ends : List ℕ) (a : Asked) (s : Session n m O) : Type 0 where
+-- the memory that was lent is good: the clause list with its stated counts, and the session
+pub record GoodMemory {n m : ℕ} {O : Operations} (Good : Session n m O → Type 0) (lits : List ℕ) (literals : ℕ) (ends : List ℕ) (s : Session n m O) : Type 0 where
   pub founded : Founded n m lits ends
   pub stated : length lits ≡ literals
-  pub scratch : RightScratch a
   pub session : Good s
 
 module _ (n m : ℕ) (M : Mode) (lits : List ℕ) (literals : ℕ) (ends : List ℕ) (scratch : Bool) (s : Session n m (M .ops)) (accepted : status (made n m M lits literals ends scratch s) ≡ 0) where
@@ -68,6 +67,38 @@ module _ (n m : ℕ) (M : Mode) (lits : List ℕ) (literals : ℕ) (ends : List 
   made-fresh = rw (size-accepted n _ _ (done none (fresh n m (M .ops))) (size-zero n _ _ (done none (fresh n m (M .ops))) accepted))
 
 module _ (n m : ℕ) (M : Mode) (lits : List ℕ) (literals : ℕ) (ends : List ℕ) (L : Sound n m M lits ends) where
+  -- what is lent beside the session fits, or does not
+  module _ (fit : Bool) (s : Session n m (M .ops)) where
+    abbrev refusal : ℕ
+    refusal = stateRefusal n (lengthsOk n m M lits literals ends s fit) (clausesOk n lits ends) (M .state (s .trail) (s .chooser))
+
+    -- memory without a refusal is good
+    pub passed-good : L .Typed (s .chooser) → 0 ≡ refusal → GoodMemory (L .Good) lits literals ends s × (fit ≡ true)
+    passed-good t e =
+        let p = state-passed _ _ _ _ e in
+        let z = sizes-right n m M lits literals ends s fit (p .0 .lengths-ok) in
+        let g = clauses-facts n lits ends .0 (p .0 .clauses-ok) in (
+          record {
+            founded = record { small = p .0 .small; stated = z .0 .ends-long; clauses = g };
+            stated = z .0 .lits-long;
+            session = L .right s (p .0 .small) (z .0 .ends-long) g (z .0 .trail) (z .0 .chooser) t .0 (p .1);
+          },
+          z .1,
+        )
+
+    -- and good memory has none
+    pub good-passed : GoodMemory (L .Good) lits literals ends s → fit ≡ true → 0 ≡ refusal
+    good-passed g e =
+        let f = g .founded in
+        let z : Sizes n m M lits literals ends s = record { trail = L .trail s (g .session) .lengths; chooser = L .chooser-sized s (g .session); lits-long = g .stated; ends-long = f .stated } in
+        passed-none
+        (record {
+          small = f .small;
+          lengths-ok = right-sizes n m M lits literals ends s fit z e;
+          clauses-ok = clauses-facts n lits ends .1 (f .clauses);
+        })
+        (L .right s (f .small) (f .stated) (f .clauses) (z .trail) (z .chooser) (L .chooser-typed s (g .session)) .1 (g .session))
+
   module _ (a : Asked) (s : Session n m (M .ops)) where
     abbrev scratch : Bool
     scratch = scratchOk (a .call) (length (a .vars)) (length (a .stamps)) (length (a .order))
@@ -75,45 +106,23 @@ module _ (n m : ℕ) (M : Mode) (lits : List ℕ) (literals : ℕ) (ends : List 
     right-scratch : RightScratch a → scratch ≡ true
     right-scratch f = true-or-false (isGroup (a .call)) (λ e. let l = f (group-exactly (a .call) .0 e) in rw (e, eq-eqb _ _ (l .0), eq-eqb _ _ (l .1))) (λ e. rw e)
 
-    -- memory without a refusal is good
-    pub admitted : L .Typed (s .chooser) → 0 ≡ stateRefusal n (lengthsOk n m M lits literals ends s scratch) (clausesOk n lits ends) (M .state (s .trail) (s .chooser)) → GoodMemory (L .Good) lits literals ends a s
-    admitted t e =
-        let p = state-passed _ _ _ _ e in
-        let z = sizes-right n m M lits literals ends s scratch (p .0 .lengths-ok) in
-        let g = clauses-facts n lits ends .0 (p .0 .clauses-ok) in
-        record {
-          founded = record { small = p .0 .small; stated = z .0 .ends-long; clauses = g };
-          stated = z .0 .lits-long;
-          scratch = λ e. both _ _ _ _ (rw e at (z .1));
-          session = L .right s (p .0 .small) (z .0 .ends-long) g (z .0 .trail) (z .0 .chooser) t .0 (p .1);
-        }
-
-    -- and good memory has none
-    pub unrefused : GoodMemory (L .Good) lits literals ends a s → 0 ≡ stateRefusal n (lengthsOk n m M lits literals ends s scratch) (clausesOk n lits ends) (M .state (s .trail) (s .chooser))
-    unrefused g =
-        let f = g .founded in
-        let z : Sizes n m M lits literals ends s = record { trail = L .trail s (g .session) .lengths; chooser = L .chooser-sized s (g .session); lits-long = g .stated; ends-long = f .stated } in
-        passed-none
-        (record {
-          small = f .small;
-          lengths-ok = right-sizes n m M lits literals ends s scratch z (right-scratch (g .scratch));
-          clauses-ok = clauses-facts n lits ends .1 (f .clauses);
-        })
-        (L .right s (f .small) (f .stated) (f .clauses) (z .trail) (z .chooser) (L .chooser-typed s (g .session)) .1 (g .session))
+    -- a call without a refusal had good memory, and a group its scratch
+    pub admitted : L .Typed (s .chooser) → 0 ≡ refusal scratch s → GoodMemory (L .Good) lits literals ends s × RightScratch a
+    admitted t e = let p = passed-good scratch s t e in (p .0, λ q. both _ _ _ _ (rw q at (p .1)))
 
     -- on good memory the checked call is the call
-    pub unchecked : GoodMemory (L .Good) lits literals ends a s → entered n m M lits literals ends a s ≡ call n m (M .ops) s (asked a)
+    pub unchecked : GoodMemory (L .Good) lits literals ends s → RightScratch a → entered n m M lits literals ends a s ≡ call n m (M .ops) s (asked a)
     unfolding entered
-    unchecked g = accepted n _ _ _ _ (unrefused g)
+    unchecked g f = accepted n _ _ _ _ (good-passed scratch s g (right-scratch f))
 
     -- what is not refused had good memory
-    pub bad-refused : L .Typed (s .chooser) → status (entered n m M lits literals ends a s) ≡ 0 → GoodMemory (L .Good) lits literals ends a s
+    pub bad-refused : L .Typed (s .chooser) → status (entered n m M lits literals ends a s) ≡ 0 → GoodMemory (L .Good) lits literals ends s × RightScratch a
     unfolding entered
     bad-refused t e = admitted t (checked-zero n _ _ _ _ e)
 
     -- so an accepted call leaves a good session
     pub entered-good : L .Typed (s .chooser) → status (entered n m M lits literals ends a s) ≡ 0 → L .Good (leaves s (entered n m M lits literals ends a s))
-    entered-good t e = let g = bad-refused t e in rw (unchecked g) (L .kept s (g .session) (asked a))
+    entered-good t e = let g = bad-refused t e in rw (unchecked (g .0) (g .1)) (L .kept s (g .0 .session) (asked a))
 
   -- and creation, where it is accepted, makes one
   pub made-good : (scratch : Bool) (s : Session n m (M .ops)) → status (made n m M lits literals ends scratch s) ≡ 0 → L .Good (leaves s (made n m M lits literals ends scratch s))

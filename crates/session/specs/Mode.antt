@@ -7,9 +7,11 @@ use lib.ListN.{length}
 use lib.Dec.{eqb}
 use Rattle.formula.specs.Clauses.{clausesOk}
 use Rattle.trail.specs.Trail.{Trail}
+use Rattle.book.specs.Calls.{Call}
 use Rattle.book.specs.Chooser.{Operations}
 use Rattle.book.specs.Session.{Result, done, Session, fresh, call}
-use Rattle.session.specs.declared.Call.{Call}
+use Rattle.book.specs.Claim.{Run, startingWith, run}
+use Rattle.session.specs.declared.Call as code
 use Rattle.session.specs.Calls.{isGroup}
 use Rattle.session.specs.Asked.{Asked, asked}
 use Rattle.session.specs.Entry.{sizesChecked, checked}
@@ -27,7 +29,7 @@ abbrev pub scratchLengths : ℕ → ℕ → ℕ → Bool
 scratchLengths k a b = eqb a k && eqb b k
 
 -- that of any other call is not looked at
-abbrev pub scratchOk : Call → ℕ → ℕ → ℕ → Bool
+abbrev pub scratchOk : code.Call → ℕ → ℕ → ℕ → Bool
 scratchOk call k a b = not (isGroup call) || scratchLengths k a b
 
 pub record Mode : Type 1 where
@@ -48,6 +50,12 @@ module _ (n m : ℕ) (M : Mode) (lits : List ℕ) (literals : ℕ) (ends : List 
   entered a s =
       checked n (lengthsOk s (scratchOk (a .call) (length (a .vars)) (length (a .stamps)) (length (a .order)))) (clausesOk n lits ends) (M .state (s .trail) (s .chooser))
       (call n m (M .ops) s (asked a))
+
+  -- a list of calls on the session as lent: it is checked once, and the calls are one run of the book; what is lent beside the session fits, or does not
+  unfoldable pub enteredList : Bool → List Call → Session n m (M .ops) → Result (Run n m (M .ops))
+  enteredList fit cs s =
+      checked n (lengthsOk s fit) (clausesOk n lits ends) (M .state (s .trail) (s .chooser))
+      (done none (run n m (M .ops) (startingWith n m (M .ops) s) cs))
 
   -- a fresh session in the memory as lent
   unfoldable pub made : Bool → Session n m (M .ops) → Result (Session n m (M .ops))

@@ -2,8 +2,9 @@
 -- An accepted call finds the memory good for what it is lent with, so that what every run keeps goes on over that.
 use Prim.Native.Nat.{ℕ}
 use mathlib.Core.Path.{_≡_, refl, sym, ap, subst, _∙_}
-use mathlib.Core.Bool.{Bool, false, true≢false}
-use mathlib.Core.List.{List, [], _∷_, map}
+use mathlib.Core.Bool.{Bool, true, false, true≢false}
+use mathlib.Core.Option.{none}
+use mathlib.Core.List.{List, [], _∷_, _++_, map}
 use lib.Dec.{eqb}
 use lib.ListN.{length}
 use borrow.Author.Tests.{eqb-true}
@@ -14,11 +15,13 @@ use Rattle.book.specs.Chooser.{Chooser}
 use Rattle.book.specs.Session.{Result, done, refuse, status, leaves, mapped, Session, call}
 use Rattle.book.specs.Claim.{Run, startingWith, begin, extended, step, run, Claim}
 use Rattle.book.proofs.Books.{length-values}
-use Rattle.book.proofs.Term3.{Inv, began, stepped, turned-down}
+use Rattle.book.specs.Read.{behind, run-past}
+use Rattle.book.proofs.Term3.{Inv, began, stepped, turned-down, ran}
 use Rattle.book.proofs.OtherList.{overRun, claim-over, over-list}
 use Rattle.session.specs.Asked.{Asked, asked, Lending}
-use Rattle.session.specs.Mode.{Mode, entered, made}
-use Rattle.session.specs.Entered.{Sound, RightScratch, Founded, GoodMemory, made-sizes, made-fresh, unchecked, bad-refused}
+use Rattle.session.specs.Mode.{Mode, entered, enteredList, made}
+use Rattle.session.specs.Checks as check
+use Rattle.session.specs.Entered.{Sound, RightScratch, Founded, GoodMemory, passed-good, good-passed, made-sizes, made-fresh, unchecked, bad-refused}
 
 -- the clause list that is lent is good, as its counts say
 abbrev pub FoundedBy : Lending → Type 0
@@ -48,6 +51,20 @@ module _ (M : Lending → Mode) (into : (g h : Lending) → M g .ops .State → 
   runLent g r [] = r
   runLent g r ((h, a) ∷ asks) = runLent g (extended (g .n) (g .m) (M g .ops) r (asked a) (enteredWith g h a (r .now))) asks
 
+  -- a list of calls that is lent with h, on the memory of a session over g; that answers and words fit is known beside
+  abbrev pub listOver : (g h : Lending) → Bool → List Call → SessionOver g → Result (Run (h .n) (h .m) (M h .ops))
+  listOver g h fit cs s = enteredList (h .n) (h .m) (M h) (h .lits) (h .literals) (h .ends) fit cs (moved g h s)
+
+  -- a run over g, gone on by what such a list came to
+  abbrev pub goneOn : (g h : Lending) → Run (g .n) (g .m) (M g .ops) → Result (Run (h .n) (h .m) (M h .ops)) → Run (g .n) (g .m) (M g .ops)
+  goneOn g h r (done k u) = record { now = moved h g (u .now); past = u .past ++ r .past }
+  goneOn g h r (refuse k) = r
+
+  -- any number of lists in a row
+  unfoldable pub runLists : (g : Lending) → Run (g .n) (g .m) (M g .ops) → List (Lending × Bool × List Call) → Run (g .n) (g .m) (M g .ops)
+  runLists g r [] = r
+  runLists g r ((h, fit, cs) ∷ lists) = runLists g (goneOn g h r (listOver g h fit cs (r .now))) lists
+
   -- What the modes owe: the memory is the same over each, and each is sound and has a chooser, which the memory suits over each N alike
   pub record Family : Type 1 where
     pub self : (g : Lending) (c : M g .ops .State) → into g g c ≡ c
@@ -63,12 +80,30 @@ module _ (M : Lending → Mode) (into : (g h : Lending) → M g .ops .State → 
     abbrev over : (h : Lending) → Run (g .n) (g .m) (M g .ops) → Run (h .n) (h .m) (M h .ops)
     over h r = overRun (h .n) (h .m) (M h .ops) r (into g h (r .now .chooser))
 
-    -- what every run keeps, over what the last accepted call was lent with
-    record Keeps (r : Run (g .n) (g .m) (M g .ops)) : Type 0 where
-      pub with : Lending
-      pub same : with .n ≡ g .n
-      pub founded : FoundedBy with
-      pub inv : Inv (with .n) (with .m) (M with .ops) (F .chooser with founded) (over with r)
+    -- what every run keeps, as one over h; and over what the last accepted call was lent with
+    record KeepsOver (h : Lending) (r : Run (g .n) (g .m) (M g .ops)) : Type 0 where
+      pub same : h .n ≡ g .n
+      pub founded : FoundedBy h
+      pub inv : Inv (h .n) (h .m) (M h .ops) (F .chooser h founded) (over h r)
+
+    abbrev Keeps : Run (g .n) (g .m) (M g .ops) → Type 0
+    Keeps r = (h : Lending) × KeepsOver h r
+
+    -- the memory is what the types of the lent slices say, and where it is good as lent with h, the run goes on over h
+    typed-over : (h : Lending) (r : Run (g .n) (g .m) (M g .ops)) → Keeps r → F .sound h .Typed (into g h (r .now .chooser))
+    typed-over h r (w, p) = rw (F .through g w h (r .now .chooser)) at (F .typed w h (p .founded) _ _ (into g w (r .now .chooser)) (p .inv .good .ok))
+
+    carried : (h : Lending) (r : Run (g .n) (g .m) (M g .ops)) → GoodMemory (F .sound h .Good) (h .lits) (h .literals) (h .ends) (moved g h (r .now)) → Keeps r → KeepsOver h r
+    carried h r k (w, p) =
+        let c = r .now .chooser in
+        let t = F .sound h .trail (moved g h (r .now)) (k .session) in
+        let e : w .n ≡ h .n = sym (length-values (w .n) _) ∙ sym (ap length (p .inv .good .holds .values)) ∙ t .lengths .values-long in
+        record {
+          same = sym e ∙ p .same;
+          founded = k .founded;
+          inv = over-list (over w r) (into g h c) e (F .switches w h) (F .chooser w (p .founded)) (F .chooser h (k .founded)) t
+              (λ values on q. rw (F .through g w h c) at (F .carry w h (p .founded) (k .founded) e values on (into g w c) q)) (p .inv);
+        }
 
     -- the result over h, as one over g
     settle : (h : Lending) (f : FoundedBy h) (r : Run (g .n) (g .m) (M g .ops)) (c : Call) (x : Result (SessionOver h))
@@ -79,36 +114,28 @@ module _ (M : Lending → Mode) (into : (g h : Lending) → M g .ops .State → 
 
     refused : (h : Lending) (r : Run (g .n) (g .m) (M g .ops)) (c : Call) (x : Result (SessionOver h)) → eqb (status x) 0 ≡ false → Keeps r → Keeps (extended (g .n) (g .m) (M g .ops) r c (mapped (moved h g) x))
     refused h r c (done k u) z p = absurd (true≢false z)
-    refused h r c (refuse k) z p =
-        let w = p .with in
-        record { with = w; same = p .same; founded = p .founded; inv = turned-down (w .n) (w .m) (M w .ops) (F .chooser w (p .founded)) (over w r) c k z (p .inv) }
+    refused h r c (refuse k) z (w, p) = (w, record { same = p .same; founded = p .founded; inv = turned-down (w .n) (w .m) (M w .ops) (F .chooser w (p .founded)) (over w r) c k z (p .inv) })
 
     -- an accepted call was lent good memory: the clause list that it was lent with, its scratch, and the session over them
     lent-good : (h : Lending) (a : Asked) (s : SessionOver g) → F .sound h .Typed (into g h (s .chooser)) → status (enteredOver g h a s) ≡ 0
-        → GoodMemory (F .sound h .Good) (h .lits) (h .literals) (h .ends) a (moved g h s)
+        → GoodMemory (F .sound h .Good) (h .lits) (h .literals) (h .ends) (moved g h s) × RightScratch a
     lent-good h a s t e = bad-refused (h .n) (h .m) (M h) (h .lits) (h .literals) (h .ends) (F .sound h) a (moved g h s) t e
 
     accepted : (h : Lending) (a : Asked) (r : Run (g .n) (g .m) (M g .ops)) → status (enteredOver g h a (r .now)) ≡ 0 → Keeps r
         → Keeps (extended (g .n) (g .m) (M g .ops) r (asked a) (enteredWith g h a (r .now)))
     unfolding step
     accepted h a r z p =
-        let w = p .with in
-        let c = r .now .chooser in
         let x = enteredOver g h a (r .now) in
-        let L = F .sound h in
-        let typed : L .Typed (into g h c) = rw (F .through g w h c) at (F .typed w h (p .founded) _ _ (into g w c) (p .inv .good .ok)) in
-        let k = lent-good h a (r .now) typed z in
-        let t = L .trail (moved g h (r .now)) (k .session) in
-        let e : w .n ≡ h .n = sym (length-values (w .n) _) ∙ sym (ap length (p .inv .good .holds .values)) ∙ t .lengths .values-long in
-        let i = over-list (over w r) (into g h c) e (F .switches w h) (F .chooser w (p .founded)) (F .chooser h (k .founded)) t
-        (λ values on q. rw (F .through g w h c) at (F .carry w h (p .founded) (k .founded) e values on (into g w c) q)) (p .inv) in
-        let j = stepped (h .n) (h .m) (M h .ops) (F .chooser h (k .founded)) (over h r) (asked a) i in
-        record {
-          with = h;
-          same = sym e ∙ p .same;
-          founded = k .founded;
-          inv = settle h (k .founded) r (asked a) x (rw (unchecked (h .n) (h .m) (M h) (h .lits) (h .literals) (h .ends) L a (moved g h (r .now)) k) j);
-        }
+        let k = lent-good h a (r .now) (typed-over h r p) z in
+        let q = carried h r (k .0) p in
+        let j = stepped (h .n) (h .m) (M h .ops) (F .chooser h (q .founded)) (over h r) (asked a) (q .inv) in (
+          h,
+          record {
+            same = q .same;
+            founded = q .founded;
+            inv = settle h (q .founded) r (asked a) x (rw (unchecked (h .n) (h .m) (M h) (h .lits) (h .literals) (h .ends) (F .sound h) a (moved g h (r .now)) (k .0) (k .1)) j);
+          },
+        )
 
     along : (r : Run (g .n) (g .m) (M g .ops)) (asks : List (Lending × Asked)) → Keeps r → Keeps (runLent g r asks)
     unfolding runLent
@@ -117,13 +144,47 @@ module _ (M : Lending → Mode) (into : (g h : Lending) → M g .ops .State → 
         let x = enteredOver g h a (r .now) in
         along _ asks (true-or-false (eqb (status x) 0) (λ z. accepted h a r (eqb-true (status x) 0 z) p) (λ z. refused h r (asked a) x z p))
 
+    -- a list of calls: refused, the run stays; else its memory is good over h, and the run goes on over h
+    stays : (h : Lending) (r : Run (g .n) (g .m) (M g .ops)) (x : Result (Run (h .n) (h .m) (M h .ops))) → eqb (status x) 0 ≡ false → goneOn g h r x ≡ r
+    stays h r (done k u) z = absurd (true≢false z)
+    stays h r (refuse k) z = refl
+
+    goes : (h : Lending) (fit : Bool) (cs : List Call) (r : Run (g .n) (g .m) (M g .ops)) → status (listOver g h fit cs (r .now)) ≡ 0 → Keeps r → KeepsOver h (goneOn g h r (listOver g h fit cs (r .now)))
+    unfolding enteredList
+    goes h fit cs r z p =
+        let s = moved g h (r .now) in
+        let e = check.checked-zero (h .n) _ _ _ _ z in
+        let q = carried h r (passed-good (h .n) (h .m) (M h) (h .lits) (h .literals) (h .ends) (F .sound h) fit s (typed-over h r p) e .0) p in
+        let u = run (h .n) (h .m) (M h .ops) (startingWith (h .n) (h .m) (M h .ops) s) cs in
+        let i = ran (h .n) (h .m) (M h .ops) (F .chooser h (q .founded)) (over h r) cs (q .inv) in
+        rw (check.accepted (h .n) _ _ _ (done none u) e)
+        (record { same = q .same; founded = q .founded; inv = rw (F .through h g h (u .now .chooser) ∙ F .self h (u .now .chooser)) (rw (run-past (h .n) (h .m) (M h .ops) cs (over h r)) at i) })
+
+    listed : (h : Lending) (fit : Bool) (cs : List Call) (r : Run (g .n) (g .m) (M g .ops)) → Keeps r → Keeps (goneOn g h r (listOver g h fit cs (r .now)))
+    listed h fit cs r p =
+        let x = listOver g h fit cs (r .now) in
+        true-or-false (eqb (status x) 0) (λ z. (h, goes h fit cs r (eqb-true (status x) 0 z) p)) (λ z. subst Keeps (sym (stays h r x z)) p)
+
+    all-listed : (r : Run (g .n) (g .m) (M g .ops)) (lists : List (Lending × Bool × List Call)) → Keeps r → Keeps (runLists g r lists)
+    unfolding runLists
+    all-listed r [] p = p
+    all-listed r ((h, fit, cs) ∷ lists) p = all-listed _ lists (listed h fit cs r p)
+
+    started : FoundedBy g → Keeps (begin (g .n) (g .m) (M g .ops))
+    started f = (g, record { same = refl; founded = f; inv = rw (F .self g (begin (g .n) (g .m) (M g .ops) .now .chooser)) (began (g .n) (g .m) (M g .ops) (F .chooser g f)) })
+
+    claims : (r : Run (g .n) (g .m) (M g .ops)) → Keeps r → Claim (g .n) (g .m) (M g .ops) r
+    claims r (w, p) = claim-over (over w r) (r .now .chooser) (p .same) (F .switches w g) (p .inv .claim)
+
     -- Term 3 of every list of checked calls from a fresh session
     pub lent-term3 : FoundedBy g → (asks : List (Lending × Asked)) → Claim (g .n) (g .m) (M g .ops) (runLent g (begin (g .n) (g .m) (M g .ops)) asks)
     lent-term3 f asks =
         let start = begin (g .n) (g .m) (M g .ops) in
-        let p = along start asks (record { with = g; same = refl; founded = f; inv = rw (F .self g (start .now .chooser)) (began (g .n) (g .m) (M g .ops) (F .chooser g f)) }) in
-        let r = runLent g start asks in
-        claim-over (over (p .with) r) (r .now .chooser) (p .same) (F .switches (p .with) g) (p .inv .claim)
+        claims (runLent g start asks) (along start asks (started f))
+
+    -- and of any number of lists in a row
+    pub lists-term3 : FoundedBy g → (lists : List (Lending × Bool × List Call)) → Claim (g .n) (g .m) (M g .ops) (runLists g (begin (g .n) (g .m) (M g .ops)) lists)
+    lists-term3 f lists = let start = begin (g .n) (g .m) (M g .ops) in claims (runLists g start lists) (all-listed start lists (started f))
 
     -- and so from every session that an accepted creation made
     pub made-term3 : (scratch : Bool) (s : SessionOver g) → status (made (g .n) (g .m) (M g) (g .lits) (g .literals) (g .ends) scratch s) ≡ 0
@@ -134,6 +195,15 @@ module _ (M : Lending → Mode) (into : (g h : Lending) → M g .ops .State → 
         subst (λ (u : SessionOver g). Claim (g .n) (g .m) (M g .ops) (runLent g (startingWith (g .n) (g .m) (M g .ops) u) asks))
         (sym (made-fresh (g .n) (g .m) (M g) (g .lits) (g .literals) (g .ends) scratch s e))
         (lent-term3 (made-sizes (g .n) (g .m) (M g) (g .lits) (g .literals) (g .ends) scratch s e) asks)
+
+    pub made-lists-term3 : (scratch : Bool) (s : SessionOver g) → status (made (g .n) (g .m) (M g) (g .lits) (g .literals) (g .ends) scratch s) ≡ 0
+        → (lists : List (Lending × Bool × List Call)) → let u = leaves s (made (g .n) (g .m) (M g) (g .lits) (g .literals) (g .ends) scratch s) in
+        Claim (g .n) (g .m) (M g .ops) (runLists g (startingWith (g .n) (g .m) (M g .ops) u) lists)
+    unfolding begin
+    made-lists-term3 scratch s e lists =
+        subst (λ (u : SessionOver g). Claim (g .n) (g .m) (M g .ops) (runLists g (startingWith (g .n) (g .m) (M g .ops) u) lists))
+        (sym (made-fresh (g .n) (g .m) (M g) (g .lits) (g .literals) (g .ends) scratch s e))
+        (lists-term3 (made-sizes (g .n) (g .m) (M g) (g .lits) (g .literals) (g .ends) scratch s e) lists)
 
     -- a result over g, as one over g, is itself
     self-mapped : (x : Result (SessionOver g)) → mapped (moved g g) x ≡ x
@@ -149,7 +219,7 @@ module _ (M : Lending → Mode) (into : (g h : Lending) → M g .ops .State → 
       along-book r good (a ∷ asks) z =
           let L = F .sound g in
           let same : enteredWith g g a (r .now) ≡ call (g .n) (g .m) (M g .ops) (r .now) (asked a) =
-          rw (self-mapped, F .self g (r .now .chooser)) (unchecked (g .n) (g .m) (M g) (g .lits) (g .literals) (g .ends) L a (r .now) (record { founded = f; stated = el; scratch = z .0; session = good })) in
+          rw (self-mapped, F .self g (r .now .chooser)) (unchecked (g .n) (g .m) (M g) (g .lits) (g .literals) (g .ends) L a (r .now) (record { founded = f; stated = el; session = good }) (z .0)) in
           ap (λ (x : Result (SessionOver g)). runLent g (extended (g .n) (g .m) (M g .ops) r (asked a) x) (allLent g asks)) same
           ∙ along-book _ (L .kept (r .now) good (asked a)) asks (z .1)
 
@@ -171,4 +241,4 @@ module _ (n m : ℕ) (M : Mode) (lits : List ℕ) (literals : ℕ) (ends : List 
 
   pub run-unchecked : length lits ≡ literals → (calls : List Call) (a : Asked) → RightScratch a → let s = (run n m (M .ops) (begin n m (M .ops)) calls) .now in
       entered n m M lits literals ends a s ≡ call n m (M .ops) s (asked a)
-  run-unchecked el calls a z = unchecked n m M lits literals ends L a _ (record { founded = f; stated = el; scratch = z; session = run-good calls })
+  run-unchecked el calls a z = unchecked n m M lits literals ends L a _ (record { founded = f; stated = el; session = run-good calls }) z

@@ -14,6 +14,7 @@ use Rattle.choosers.specs.List.{listOps}
 use Rattle.book.specs.Calls.{Call, bump, decay, setDecay, insert, switchOff, decide, enqueue, learnUnit, goBack, bumpReason, group}
 use Rattle.book.specs.Chooser.{Next, chose, nothing, stuck, Operations}
 use Rattle.book.specs.Session.{Result, done, refuse, status, reply, leaves, mapped, need, Session, tuned, decided, call}
+use Rattle.book.specs.Read.{called}
 use Rattle.book.specs.Mapped.{mapped-status}
 use Rattle.session.specs.Entry.{replyNumber}
 use Rattle.forms.specs.Text.{tab, newline, digits}
@@ -21,7 +22,7 @@ use Rattle.forms.specs.TextLaws.{digits-two, digits-five, digits-room}
 use Rattle.forms.specs.Forms.{Opening, callIn, codesIn, firstIn}
 use Rattle.sheet.specs.Sheet.{replyText, answerLine, ClauseList, added, opening, answered}
 use Rattle.sheet.specs.Turns.{answered-turns}
-use Rattle.sheet.specs.Stages.{Stage, reading, inHeap, inList, called, onList, meets, turn, answers, started}
+use Rattle.sheet.specs.Stages.{Stage, reading, inHeap, inList, onList, meets, turn, answers, started}
 use Rattle.sheet.specs.Writing.{replyOf}
 
 -- five digits, two and ten, two tabs and a newline

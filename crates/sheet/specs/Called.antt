@@ -3,7 +3,7 @@ use Prim.Native.Nat.{ℕ, _≤_}
 use mathlib.Core.Path.{_≡_, refl, sym, ap, _∙_}
 use mathlib.Core.List.{List, []}
 use lib.ListN.{length, take}
-use Rattle.lit.specs.Numbers.{NONE, badLine}
+use Rattle.lit.specs.Numbers.{NONE, maxGroup, badLine}
 use Rattle.book.specs.Calls.{group}
 use Rattle.book.specs.Chooser.{Operations}
 use Rattle.book.specs.Session.{Session, call}
@@ -16,7 +16,7 @@ use Rattle.forms.specs.declared.Count as count
 use Rattle.forms.specs.declared.Count.the-variants as a-count
 use Rattle.forms.specs.Forms.{callIn}
 use Rattle.forms.specs.Read.{callRead, CallRead, groupOn, groupRead, GroupRead}
-use Rattle.sheet.specs.Stages.{called}
+use Rattle.book.specs.Read.{called}
 
 -- a line by what was read of it
 module _ {line : List ℕ} {r : read.Read} (h : CallRead line r) {n m : ℕ} {O : Operations} {s : Session n m O} where
@@ -36,6 +36,9 @@ module _ {line : List ℕ} {r : read.Read} (h : CallRead line r) {n m : ℕ} {O 
 module _ {line vars : List ℕ} {r : count.Count} (h : GroupRead line r vars) where
   pub group-within : {k : ℕ} → r ≡ a-count.Are k → k ≤ length vars
   group-within e = rw e at (h .within)
+
+  pub group-few : {k : ℕ} → r ≡ a-count.Are k → k ≤ maxGroup
+  group-few e = rw e at (h .few)
 
   module _ {n m : ℕ} {O : Operations} {s : Session n m O} where
     pub group-refused : r ≡ a-count.Bad → Answered (called n m O s (groupOn line)) s badLine NONE s

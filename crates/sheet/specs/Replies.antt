@@ -22,8 +22,8 @@ use Rattle.choosers.specs.List as list
 use Rattle.book.specs.Calls.{Call, bump, decay, setDecay, insert, switchOff, decide, enqueue, learnUnit, goBack, bumpReason, group}
 use Rattle.book.specs.Chooser.{Next, chose, nothing, stuck, Operations}
 use Rattle.book.specs.Session.{Result, reply, need, Session, tuned, decided, call}
+use Rattle.book.specs.Read.{called}
 use Rattle.sheet.specs.Bounds.{Small}
-use Rattle.sheet.specs.Stages.{called}
 
 -- the variable chosen, if there is one, is below n
 abbrev Chosen : {S : Type 0} → ℕ → Next S → Type 0

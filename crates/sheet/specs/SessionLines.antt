@@ -9,13 +9,14 @@ use Rattle.lit.specs.Numbers.{answerRoom}
 use Rattle.book.specs.Calls.{Call}
 use Rattle.book.specs.Chooser.{Operations}
 use Rattle.book.specs.Session.{Result, status, reply, leaves, mapped, Session, call}
+use Rattle.book.specs.Read.{called}
 use Rattle.book.specs.Mapped.{mapped-status, mapped-reply, mapped-leaves}
 use Rattle.session.specs.Entry.{Answered}
 use Rattle.forms.specs.Text.{written}
 use Rattle.forms.specs.Forms.{callIn}
 use Rattle.sheet.specs.declared.Place.{Place}
 use Rattle.sheet.specs.Sheet.{answerLine}
-use Rattle.sheet.specs.Stages.{Stage, called, meets, turn, answers}
+use Rattle.sheet.specs.Stages.{Stage, meets, turn, answers}
 use Rattle.sheet.specs.Writing.{Wrote, same-room, replyOf}
 use Rattle.sheet.specs.Bounds.{Small, answer-short, status-small, answer-text}
 use Rattle.sheet.specs.Running.{lineLength, lineFrom, after, Room, Ended, SameEnd}
@@ -47,13 +48,6 @@ module _ {S : Type 0} {Good : S → Type 0} {stage : S → Stage} {sheet : List 
 -- where no line is left, a run has ended, and the buffer stays
 pub nothing-left : {sheet out : List ℕ} {p : Place} (stage : Stage) → Room sheet p out → p .left ≡ 0 → Ended sheet p stage out (p .at) out
 nothing-left {p = p} stage room over = along-over {Good = λ (s : Stage). p .left ≡ 0} {stage = λ (s : Stage). s} (along-none {s = stage} room over) over
-
-module _ {n m : ℕ} {O : Operations} (Good : Session n m O → Type 0) (s : Session n m O) where
-  -- what every call keeps, every line keeps
-  pub called-kept : Good s → ((c : Call) → Good (leaves s (call n m O s c))) → (c : Option Call) → Good (leaves s (called n m O s c))
-  unfolding called
-  called-kept good f none = good
-  called-kept good f (some c) = f c
 
 -- A mode: its sessions, and what they are as stages.
 pub record Mode {n m : ℕ} {O : Operations} (stage : Session n m O → Stage) : Type 0 where

@@ -14,6 +14,7 @@ use Rattle.book.specs.Calls.{Call, Line}
 use Rattle.book.specs.Chooser.{Operations}
 use Rattle.book.specs.Session.{Result, done, refuse, status, leaves, need}
 use Rattle.book.specs.Claim.{log, begin, run}
+use Rattle.book.specs.Read.{callsOf}
 use Rattle.forms.specs.Letters.{dash}
 use Rattle.forms.specs.Text.{tab, newline, lines, occurs, digits}
 use Rattle.forms.specs.Forms.{Mode, vsids, vmtf, Opening, callIn, beginsClause, codesIn, firstIn}
@@ -26,12 +27,6 @@ replyText (some r) = digits r
 -- 'Answer line: line number from 1, status, reply.'
 unfoldable pub answerLine : ℕ → ℕ → Option ℕ → List ℕ
 answerLine i k r = digits i ++ (tab ∷ (digits k ++ (tab ∷ (replyText r ++ (newline ∷ [])))))
-
--- of what was read of lines, the calls
-unfoldable pub callsOf : List (Option Call) → List Call
-callsOf [] = []
-callsOf (none ∷ cs) = callsOf cs
-callsOf (some c ∷ cs) = c ∷ callsOf cs
 
 -- the answers to lines from the i-th on: 3 where a line has no call's form, else the next of what a log says of the calls. The third clause never comes: a
 -- run logs every call.

@@ -5,12 +5,11 @@ use mathlib.Core.Bool.{cond}
 use mathlib.Core.Option.{Option, none, some}
 use mathlib.Core.List.{List, [], _∷_, _++_}
 use lib.ListN.{length}
-use Rattle.lit.specs.Numbers.{badLine}
 use Rattle.choosers.specs.Heap.{heapOps}
 use Rattle.choosers.specs.List.{listOps}
-use Rattle.book.specs.Calls.{Call}
 use Rattle.book.specs.Chooser.{Operations}
-use Rattle.book.specs.Session.{Result, refuse, status, reply, leaves, mapped, Session, fresh, call}
+use Rattle.book.specs.Session.{Result, status, reply, leaves, mapped, Session, fresh}
+use Rattle.book.specs.Read.{called}
 use Rattle.forms.specs.Forms.{Mode, vsids, vmtf, Opening, callIn, beginsClause, codesIn}
 use Rattle.sheet.specs.Sheet.{answerLine, ClauseList, added, fromFirst}
 
@@ -19,11 +18,6 @@ pub data Stage : Type 0 where
   reading : Mode → ℕ → List ℕ → List ℕ → Stage
   inHeap : (n : ℕ) (lits ends : List ℕ) → Session n (length ends) (heapOps n lits ends) → Stage
   inList : (n : ℕ) (lits ends : List ℕ) → Session n (length ends) (listOps n lits) → Stage
-
--- a call on a session; 3 where the line has no call's form
-unfoldable pub called : (n m : ℕ) (O : Operations) → Session n m O → Option Call → Result (Session n m O)
-called n m O s none = refuse badLine
-called n m O s (some c) = call n m O s c
 
 -- a line of a session, and its result as one of the stage; of either mode
 abbrev callLine : (n m : ℕ) (O : Operations) → (Session n m O → Stage) → Session n m O → List ℕ → Result Stage

@@ -15,51 +15,35 @@ use Rattle.book.specs.Calls.{Call, Line}
 use Rattle.book.specs.Chooser.{Operations}
 use Rattle.book.specs.Session.{Result, done, refuse, status, reply, leaves, logLine, Session, fresh, call}
 use Rattle.book.specs.Mapped.{mapped-status, mapped-reply, mapped-leaves}
-use Rattle.book.specs.Claim.{log, Run, begin, step, run}
+use Rattle.book.specs.Claim.{Run, begin, step}
+use Rattle.book.specs.Read.{called, logLines, logs}
 use Rattle.forms.specs.Forms.{Mode, vsids, vmtf, Opening, callIn, codesIn, beginsClause, firstIn}
-use Rattle.sheet.specs.Sheet.{answerLine, callsOf, logged, sessionAnswers, ClauseList, chooserOf, added, clauseLines, listed, clauseAnswers, behindFirst, opening, fromFirst, answered}
-use Rattle.sheet.specs.Stages.{Stage, inHeap, inList, called, onList, opened, answers, started}
+use Rattle.sheet.specs.Sheet.{answerLine, logged, sessionAnswers, ClauseList, chooserOf, added, clauseLines, listed, clauseAnswers, behindFirst, opening, fromFirst, answered}
+use Rattle.sheet.specs.Stages.{Stage, inHeap, inList, onList, opened, answers, started}
 use Rattle.sheet.specs.ClauseLines.{section-over, clause-reply}
 
 -- ---- a session
 module _ (n m : ℕ) (O : Operations) where
-  -- what a log holds of a call, and of the calls of lines that were read, the oldest first
-  abbrev logOne : Run n m O → Call → Line
-  logOne r c = logLine c (call n m O (r .now) c)
-
-  unfoldable logLines : Run n m O → List (Option Call) → List Line
-  logLines r [] = []
-  logLines r (none ∷ cs) = logLines r cs
-  logLines r (some c ∷ cs) = logOne r c ∷ logLines (step n m O r c) cs
-
-  logs : (cs : List (Option Call)) (r : Run n m O) → reverse (log ((run n m O r (callsOf cs)) .past)) ≡ reverse (log (r .past)) ++ logLines r cs
-  unfolding callsOf run step logLines
-  logs [] r = sym (append-nil (reverse (log (r .past))))
-  logs (none ∷ cs) r = logs cs r
-  logs (some c ∷ cs) r =
-      let more = logLines (step n m O r c) cs in
-      logs cs (step n m O r c) ∙ (rw (reverse-cons (logOne r c) (log (r .past))) (append-assoc (reverse (log (r .past))) (logOne r c ∷ []) more))
-
   module _ (stage : Session n m O → Stage) where
     -- how a line of the session is answered
     abbrev Answers : Type 0
     Answers = (s : Session n m O) (i : ℕ) (line : List ℕ) (ls : List (List ℕ)) → let x = called n m O s (callIn line) in
         answers i (stage s) (line ∷ ls) ≡ answerLine i (status x) (reply x) ++ answers (i + 1) (stage (leaves s x)) ls
 
-    tells : Answers → (ls : List (List ℕ)) (r : Run n m O) (i : ℕ) → answers i (stage (r .now)) ls ≡ logged i (map callIn ls) (logLines r (map callIn ls))
+    tells : Answers → (ls : List (List ℕ)) (r : Run n m O) (i : ℕ) → answers i (stage (r .now)) ls ≡ logged i (map callIn ls) (logLines n m O r (map callIn ls))
     unfolding answers called step logged logLines
     tells a [] r i = refl
     tells a (line ∷ ls) r i = a (r .now) i line ls ∙ go (callIn line) (tells a ls)
       where
-        go : (c : Option Call) → ((u : Run n m O) (j : ℕ) → answers j (stage (u .now)) ls ≡ logged j (map callIn ls) (logLines u (map callIn ls)))
+        go : (c : Option Call) → ((u : Run n m O) (j : ℕ) → answers j (stage (u .now)) ls ≡ logged j (map callIn ls) (logLines n m O u (map callIn ls)))
             → let x = called n m O (r .now) c in
-            answerLine i (status x) (reply x) ++ answers (i + 1) (stage (leaves (r .now) x)) ls ≡ logged i (c ∷ map callIn ls) (logLines r (c ∷ map callIn ls))
+            answerLine i (status x) (reply x) ++ answers (i + 1) (stage (leaves (r .now) x)) ls ≡ logged i (c ∷ map callIn ls) (logLines n m O r (c ∷ map callIn ls))
         go none ih = ap (λ (bs : List ℕ). answerLine i badLine none ++ bs) (ih r (i + 1))
         go (some c) ih = let x = call n m O (r .now) c in ap (λ (bs : List ℕ). answerLine i (status x) (reply x) ++ bs) (ih (step n m O r c) (i + 1))
 
     session : Answers → (i : ℕ) (ls : List (List ℕ)) → answers i (stage (fresh n m O)) ls ≡ sessionAnswers n m O i (map callIn ls)
     unfolding begin
-    session a i ls = tells a ls (begin n m O) i ∙ ap (λ (log : List Line). logged i (map callIn ls) log) (sym (logs (map callIn ls) (begin n m O)))
+    session a i ls = tells a ls (begin n m O) i ∙ ap (λ (log : List Line). logged i (map callIn ls) log) (sym (logs n m O (map callIn ls) (begin n m O)))
 
 -- in either mode
 opened-answers : (mode : Mode) (n : ℕ) (list : ClauseList) (i : ℕ) (ls : List (List ℕ))

@@ -28,7 +28,7 @@ step-requires c κs =
     (sessionOf n m lits ends (a .values .now) (a .levels .now) (a .reasons .now) (a .trail .now) (a .opened .now) (a .activity .now) (a .heap .now) (a .indices .now) (a .decision .now) (a .s))
     (λ v b. c .before .before .before .before .before .before .before .before .before .before .before .before .before .before .before .before .before .before .before .before .before .before .before .before .before .before .before .slice-known6 .given v)
     (sym (c .before .before .before .before .before .before .before .before .before .if1 .left) ∙ (rw (c .before .before .before .before .before .before .before .before .before .before .before .before .before .before .before .before .before .before .before .before .scratch-ok .ensures) at (c .before .before .before .before .before .before .before .before .before .before .refusal .ensures))) in
-    g .session
+    g .0 .session
 
 returns-2 : tie.Need-returns-2
 unfolding entered

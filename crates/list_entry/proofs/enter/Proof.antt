@@ -37,7 +37,7 @@ step-requires c κs =
     (sessionOf n m lits (a .values .now) (a .levels .now) (a .reasons .now) (a .trail .now) (a .opened .now) (a .next .now) (a .prev .now) (a .ts .now) (a .s))
     tt
     (sym (c .before .before .before .before .before .before .before .before .before .before .if1 .left) ∙ (rw (c .before .before .before .before .before .before .before .before .before .before .before .before .before .before .before .before .before .before .before .before .scratch-ok .ensures) at (c .before .before .before .before .before .before .before .before .before .before .before .refusal .ensures))) in
-    (g .session, g .scratch)
+    (g .0 .session, g .1)
 
 returns-2 : tie.Need-returns-2
 unfolding entered

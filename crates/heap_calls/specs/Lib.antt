@@ -1,0 +1,2 @@
+-- Lists of calls in heap mode.
+pub mod Lists

@@ -1,0 +1,2 @@
+-- Lists of calls in list mode.
+pub mod Lists
