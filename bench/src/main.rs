@@ -1,11 +1,15 @@
-//! Times the proved chooser against the reference on the same sheets, in one process, turn by turn, and prints the medians of the
-//! processor's time, which other work on the machine disturbs least.
+//! Times the proved chooser against the reference on the same sheets and on the same calls in lists, in one process, turn by turn, and prints
+//! the medians of the processor's time, which other work on the machine disturbs least.
 //! The reference reads heap, list and values without bounds checks, as JigSAT does.
+//!
+//! Usage: bench, or bench lists for the calls in lists alone.
 
 mod clock;
+mod lists;
+mod native;
 mod workloads;
 
-use std::{hint::black_box, time::Duration};
+use std::{env, hint::black_box, time::Duration};
 use workloads::{growth, uses, Workload};
 
 /// How many times each of the two is timed on a sheet, and for how long each time.
@@ -63,7 +67,11 @@ fn table(title: &str, workloads: &[Workload]) {
 }
 
 fn main() {
-    table("uses", &uses());
-    println!();
-    table("growth with N", &growth());
+    if env::args().nth(1).as_deref() != Some("lists") {
+        table("uses", &uses());
+        println!();
+        table("growth with N", &growth());
+        println!();
+    }
+    native::table();
 }
