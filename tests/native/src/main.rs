@@ -138,8 +138,9 @@ impl<M: Mode> Round<'_, M> {
             request.clauses = self.other_clauses();
             let (status, request) = self.run(request).map_err(|error| format!("list {number}: {error}"))?;
             // where a reason is no clause any more, the session goes on with the clauses that it had
-            if status == 0 {
-                (self.memory, self.clauses) = (request.memory, request.clauses);
+            match status {
+                0 => (self.memory, self.clauses) = (request.memory, request.clauses),
+                _ => self.tally.lost_reasons += 1,
             }
         }
         Ok(())
@@ -214,26 +215,34 @@ impl<M: Mode> Round<'_, M> {
     fn refuse_in_order(&mut self) -> Result<(), String> {
         for _ in 0..6 {
             let list = if self.rng.chance(1, 4) { None } else { Some(self.list()) };
-            let is_fresh = list.is_none();
-            let mut request = self.request(list);
-            let (mut status, mut names) = (0, Vec::new());
-            let (name, _, apply) = self.rng.pick(M::breakers());
-            let mut broken = request.clone();
-            if self.rng.chance(1, 2) && apply(&mut broken.memory, self.lent(), &mut self.rng).is_some() {
-                (request, status) = (broken, if is_fresh { 0 } else { STATE });
-                names.push(name);
-            }
-            for (number, faults) in [(6, faults::clause_lists()), (5, faults::lengths()), (4, faults::too_many())] {
-                let (name, apply) = self.rng.pick(&faults);
-                let mut faulty = request.clone();
-                if self.rng.chance(1, 2) && apply(&mut faulty, &mut self.rng).is_some() {
-                    (request, status) = (faulty, number);
-                    names.push(name);
-                }
-            }
-            self.must_get(status, &names.join(" and "), request)?;
+            let kind = if list.is_some() { "list" } else { "creation" };
+            let (request, faults) = self.faulty(self.request(list));
+            let mut due: Vec<u32> = faults.iter().map(|&(status, _)| status).filter(|&status| status != STATE || kind == "list").collect();
+            due.sort_unstable();
+            Tally::count(&mut self.tally.at_once, format!("{kind} {due:?}"));
+            self.must_get(due.first().copied().unwrap_or(0), &format!("{kind} with {faults:?}"), request)?;
         }
         Ok(())
+    }
+
+    /// A request with some faults, at most one for each refusal.
+    fn faulty(&mut self, mut request: Request<M>) -> (Request<M>, Vec<(u32, &'static str)>) {
+        let mut made = Vec::new();
+        let (name, _, apply) = self.rng.pick(M::breakers());
+        let mut broken = request.clone();
+        if self.rng.chance(1, 2) && apply(&mut broken.memory, self.lent(), &mut self.rng).is_some() {
+            request = broken;
+            made.push((STATE, name));
+        }
+        for (status, faults) in [(6, faults::clause_lists()), (5, faults::lengths()), (4, faults::too_many())] {
+            let (name, apply) = self.rng.pick(&faults);
+            let mut faulty = request.clone();
+            if self.rng.chance(1, 2) && apply(&mut faulty, &mut self.rng).is_some() {
+                request = faulty;
+                made.push((status, name));
+            }
+        }
+        (request, made)
     }
 
     /// Puts random words into random places: both must agree on what is still good, and on what follows.

@@ -14,6 +14,10 @@ pub struct Tally {
     pub words: u64,
     /// Groups of just as many variables as may be, and groups of one more.
     pub longest_groups: [u64; 2],
+    /// Lists lent with clauses among which a reason of the state is no more.
+    pub lost_reasons: u64,
+    /// How often each set of refusals was due at once, on lists and on creations.
+    pub at_once: BTreeMap<String, u64>,
     /// Lists on which activities were scaled or stamps begun anew.
     pub over_limit: BTreeMap<&'static str, u64>,
     /// How often each fault and each breaker was tried.
@@ -67,6 +71,13 @@ impl Tally {
             need(self.calls[status] > 0, format!("call with status {status}"));
         }
         need(self.longest_groups.iter().all(|&groups| groups > 0), "groups of 2,048 and 2,049".into());
+        need(self.lost_reasons > 0, "clauses without a state's reason".into());
+        for sum in 3..16 {
+            let due: Vec<u32> = (4..=7).filter(|status| sum >> (status - 4) & 1 == 1).collect();
+            if due.len() > 1 {
+                need(self.at_once.contains_key(&format!("list {due:?}")), format!("at once {due:?}"));
+            }
+        }
         for mode in modes {
             need(self.over_limit.contains_key(mode), format!("{mode} over its limit"));
         }
@@ -99,7 +110,12 @@ impl fmt::Display for Tally {
         writeln!(f, "calls by status:{}; {longest} groups of {MAX_GROUP} and {longer} of one more", statuses(&self.calls))?;
         let limits: Vec<String> = self.over_limit.iter().map(|(mode, count)| format!("{count} in {mode} mode")).collect();
         writeln!(f, "lists over a scaling or over the end of the stamps: {}", limits.join(", "))?;
-        writeln!(f, "{} kinds of faults, tried {} times", self.faults.len(), self.faults.values().sum::<u64>())?;
+        let (faults, tried, sets) = (self.faults.len(), self.faults.values().sum::<u64>(), self.at_once.len());
+        writeln!(
+            f,
+            "{faults} kinds of faults, tried {tried} times; {sets} sets of refusals due at once; {} lists without a reason's clause",
+            self.lost_reasons
+        )?;
         let facts = self.facts.values();
         let alone = facts.clone().filter(|(_, alone)| *alone > 0).count();
         write!(
