@@ -75,7 +75,7 @@ impl<M: Mode> Calls<M> {
         self.memory.session(formula(self.n, &self.clauses))
     }
 
-    /// The calls as the reference takes them, with their groups in the vector.
+    /// The calls as the reference takes them; the variables of their groups go to the vectors.
     pub fn decoded<'a>(&self, groups: &'a mut Vec<Vec<usize>>) -> Vec<Call<'a>> {
         let words = || self.words.chunks_exact(CALL_WORDS).map(|call| [call[0], call[1], call[2]]);
         groups.resize_with(words().count(), Vec::new);

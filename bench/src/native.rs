@@ -5,7 +5,10 @@ use crate::{
     lists::{Calls, Mode},
     median, SAMPLE, SAMPLES,
 };
-use reference::native::{HeapMemory, ListMemory, ANSWER_WORDS, CALL_WORDS};
+use reference::{
+    native::{HeapMemory, ListMemory, ANSWER_WORDS, CALL_WORDS},
+    session::Call,
+};
 use std::{hint::black_box, time::Duration};
 
 #[rustfmt::skip]
@@ -65,13 +68,11 @@ impl Proved for ListMemory {
 }
 
 /// The time of all calls on the reference's session.
-fn reference_time<M: Proved>(calls: &Calls<M>) -> impl Fn() -> Duration + '_ {
+fn reference_time<'a, M: Proved>(calls: &'a Calls<M>, decoded: &'a [Call<'a>]) -> impl Fn() -> Duration + 'a {
     move || {
-        let mut groups = Vec::new();
-        let decoded = calls.decoded(&mut groups);
         let mut session = calls.session();
         let start = thread_time();
-        for &call in black_box(&decoded) {
+        for &call in black_box(decoded) {
             let _ = black_box(session.call(call));
         }
         thread_time() - start
@@ -102,7 +103,9 @@ fn sample(turn: &dyn Fn() -> Duration, turns: u32) -> Duration {
 
 /// The median times of the reference and of the proved chooser for all calls.
 fn measure<M: Proved>(calls: &Calls<M>, length: usize) -> [Duration; 2] {
-    let both: [&dyn Fn() -> Duration; 2] = [&reference_time(calls), &proved_time(calls, length)];
+    let mut groups = Vec::new();
+    let decoded = calls.decoded(&mut groups);
+    let both: [&dyn Fn() -> Duration; 2] = [&reference_time(calls, &decoded), &proved_time(calls, length)];
     let turns = both.map(|turn| (SAMPLE.as_nanos() / sample(turn, 2).as_nanos().max(1)).clamp(1, 1000) as u32);
     // lists of a call each take long where there is much to check
     let samples_wanted = if turns[1] > 1 { SAMPLES } else { SAMPLES / 4 };

@@ -65,7 +65,7 @@ impl<M: Mode> Round<'_, M> {
         if let Some(difference) = expected.difference(&mut request) {
             return Err(format!("status {status}, reference and proved differ in {difference}"));
         }
-        // that the reference leaves a refused request alone is not for it to say
+        // a refusal changes nothing, whatever the reference makes of it
         if let Some(difference) = request.difference(&mut before.clone()).filter(|_| status != 0) {
             return Err(format!("refused with {status}, and changed in {difference}"));
         }
