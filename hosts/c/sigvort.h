@@ -5,7 +5,7 @@
    memory. docs/NATIVE.md is the guide, docs/SHEET.md says what the calls do.
 
    Of every function here: nothing is kept between calls and nothing is allocated, so calls on different memory may run at the same time. A pointer
-   is never null, even for a length of 0. What is written overlaps nothing else that is lent. C99, C11 and C++. */
+   is aligned, good for its whole length, and not null, even for a length of 0. What is written overlaps nothing else that is lent. C99, C11 and C++. */
 #ifndef SIGVORT_H
 #define SIGVORT_H
 
@@ -72,7 +72,7 @@ enum sigvort_letter {
     SIGVORT_DECAY = 121        /* y: no argument */
 };
 
-/* A status that is not 0, in checking order: where several fit, the first is given. 4 to 7 refuse a whole list, 3 and 8 to 14 one call of it. */
+/* A status that is not 0. Checked are first 4 to 7, which refuse a whole list, then of each call 3 and 8 to 14; the first that fits is given. */
 enum sigvort_refusal {
     SIGVORT_BAD_FORM = 3,           /* the three words have not the form of a call, or the group does not lie in vars or is too long */
     SIGVORT_TOO_MANY_VARIABLES = 4, /* n is above SIGVORT_MAX_VARIABLES */
@@ -206,8 +206,8 @@ uint32_t sigvort_list_calls(
 
 /* ---- The memory of a session ----
 
-   Arrays of n places each and the small states, named as the entries name them. A caller may set the pointers itself, or have one block laid out by
-   sigvort_heap_place and sigvort_list_place. The clause list may be changed between lists of calls: a solver that learns lends longer ones. */
+   Arrays of sigvort_places(n) places each and the small states, named as the entries name them. A caller may set the pointers itself, or have one block
+   laid out by sigvort_heap_place and sigvort_list_place. The clause list may be changed between lists of calls: a solver that learns lends longer ones. */
 
 /* A session in heap mode. */
 struct sigvort_heap {
@@ -244,7 +244,7 @@ struct sigvort_list {
     uint64_t timestamp;
 };
 
-/* The places that a block has for each array: n, and no more than the limit, above which no array is looked at. */
+/* The places of each array: n, and no more than the limit. With more variables a session is refused, whatever its arrays. */
 static inline size_t sigvort_places(uint32_t n)
 {
     return n < SIGVORT_MAX_VARIABLES ? n : SIGVORT_MAX_VARIABLES;
@@ -315,10 +315,11 @@ static inline void sigvort_list_place(struct sigvort_list *s, uint32_t n, void *
 /* Opens a session in the memory of s: sigvort_heap_fresh. */
 static inline uint32_t sigvort_heap_open(struct sigvort_heap *s)
 {
+    const size_t places = sigvort_places(s->n);
     return sigvort_heap_fresh(
         s->n, s->literals, s->clauses, s->lits, s->literals, s->ends, s->clauses,
-        s->values, s->n, s->levels, s->n, s->reasons, s->n, s->trail, s->n, s->opened, s->n,
-        s->activity, s->n, s->heap, s->n, s->indices, s->n, s->decision, s->n,
+        s->values, places, s->levels, places, s->reasons, places, s->trail, places, s->opened, places,
+        s->activity, places, s->heap, places, s->indices, places, s->decision, places,
         &s->len, &s->level, &s->curr_i, &s->members, &s->inc, &s->decay);
 }
 
@@ -327,10 +328,11 @@ static inline uint32_t sigvort_heap_do(
     struct sigvort_heap *s, const uint32_t *vars, size_t vars_len,
     const uint32_t *calls, size_t calls_len, uint32_t *answers, size_t answers_len)
 {
+    const size_t places = sigvort_places(s->n);
     return sigvort_heap_calls(
         s->n, s->literals, s->clauses, s->lits, s->literals, s->ends, s->clauses,
-        s->values, s->n, s->levels, s->n, s->reasons, s->n, s->trail, s->n, s->opened, s->n,
-        s->activity, s->n, s->heap, s->n, s->indices, s->n, s->decision, s->n,
+        s->values, places, s->levels, places, s->reasons, places, s->trail, places, s->opened, places,
+        s->activity, places, s->heap, places, s->indices, places, s->decision, places,
         &s->len, &s->level, &s->curr_i, &s->members, &s->inc, &s->decay,
         vars, vars_len, calls, calls_len, answers, answers_len);
 }
@@ -338,10 +340,11 @@ static inline uint32_t sigvort_heap_do(
 /* Opens a session in the memory of s: sigvort_list_fresh. */
 static inline uint32_t sigvort_list_open(struct sigvort_list *s)
 {
+    const size_t places = sigvort_places(s->n);
     return sigvort_list_fresh(
         s->n, s->literals, s->clauses, s->lits, s->literals, s->ends, s->clauses,
-        s->values, s->n, s->levels, s->n, s->reasons, s->n, s->trail, s->n, s->opened, s->n,
-        s->next, s->n, s->prev, s->n, s->ts, s->n,
+        s->values, places, s->levels, places, s->reasons, places, s->trail, places, s->opened, places,
+        s->next, places, s->prev, places, s->ts, places,
         &s->len, &s->level, &s->curr_i, &s->start, &s->search, &s->timestamp);
 }
 
@@ -350,10 +353,11 @@ static inline uint32_t sigvort_list_do(
     struct sigvort_list *s, const uint32_t *vars, size_t vars_len,
     const uint32_t *calls, size_t calls_len, uint32_t *answers, size_t answers_len)
 {
+    const size_t places = sigvort_places(s->n);
     return sigvort_list_calls(
         s->n, s->literals, s->clauses, s->lits, s->literals, s->ends, s->clauses,
-        s->values, s->n, s->levels, s->n, s->reasons, s->n, s->trail, s->n, s->opened, s->n,
-        s->next, s->n, s->prev, s->n, s->ts, s->n,
+        s->values, places, s->levels, places, s->reasons, places, s->trail, places, s->opened, places,
+        s->next, places, s->prev, places, s->ts, places,
         &s->len, &s->level, &s->curr_i, &s->start, &s->search, &s->timestamp,
         vars, vars_len, calls, calls_len, answers, answers_len);
 }

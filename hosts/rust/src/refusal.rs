@@ -2,7 +2,7 @@ use std::{error::Error, fmt};
 
 /// Why a call, a list of calls or a sheet was refused. What is refused changes nothing.
 ///
-/// Where several refusals fit, the one with the lowest number is given.
+/// Checked are first 4 to 7, which refuse a whole list, then of each call the others; the first that fits is given, lowest number first.
 #[derive(Clone, Copy, Debug, PartialEq, Eq, Hash)]
 #[non_exhaustive]
 #[repr(u32)]
@@ -15,7 +15,7 @@ pub enum Refusal {
     Form = 3,
     /// There are more than [`MAX_VARIABLES`](crate::MAX_VARIABLES) variables.
     TooManyVariables = 4,
-    /// An array does not have a place for each variable.
+    /// An array does not have exactly one place for each variable.
     Length = 5,
     /// The clause list is not good: too long, ends that fall or do not fit, or a variable that does not exist.
     Clauses = 6,
@@ -84,7 +84,7 @@ impl fmt::Display for Refusal {
             Refusal::BufferTooShort => "the answer buffer has fewer than 24 bytes for each newline of the sheet",
             Refusal::Form => "the call does not have its form",
             Refusal::TooManyVariables => "there are more than 2,048 variables",
-            Refusal::Length => "an array does not have a place for each variable",
+            Refusal::Length => "an array does not have exactly one place for each variable",
             Refusal::Clauses => "the clause list is too long, names a variable that does not exist, or has ends that do not fit",
             Refusal::State => "the memory holds no good session",
             Refusal::Variable => "a variable does not exist",
