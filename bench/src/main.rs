@@ -1,11 +1,16 @@
-//! Times the proved chooser against the reference on the same sheets, in one process, turn by turn, and prints the medians of the
-//! processor's time, which other work on the machine disturbs least.
+//! Times the proved chooser against the reference on the same sheets, on the same calls in lists and in the same solver, in one process, turn
+//! by turn, and prints the medians of the processor's time, which other work on the machine disturbs least.
 //! The reference reads heap, list and values without bounds checks, as JigSAT does.
+//!
+//! Usage: bench, or bench with `sheets`, `lists` or `solver` for one of the three alone.
 
 mod clock;
+mod lists;
+mod native;
+mod solver;
 mod workloads;
 
-use std::{hint::black_box, time::Duration};
+use std::{env, hint::black_box, time::Duration};
 use workloads::{growth, uses, Workload};
 
 /// How many times each of the two is timed on a sheet, and for how long each time.
@@ -63,7 +68,19 @@ fn table(title: &str, workloads: &[Workload]) {
 }
 
 fn main() {
-    table("uses", &uses());
-    println!();
-    table("growth with N", &growth());
+    let only = env::args().nth(1);
+    let asked = |part| only.as_deref().is_none_or(|only| only == part);
+    if asked("sheets") {
+        table("uses", &uses());
+        println!();
+        table("growth with N", &growth());
+        println!();
+    }
+    if asked("lists") {
+        native::table();
+        println!();
+    }
+    if asked("solver") {
+        solver::table();
+    }
 }

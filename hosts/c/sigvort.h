@@ -1,13 +1,23 @@
-/* The proved option chooser, as a C program calls it. Link with libdesk.a, which `rt staticlib desk` writes. */
+/* The proved option chooser, as a C program calls it. Link with libdesk.a, which `rt staticlib desk` writes.
+
+   Two ways in. sigvort_run takes a call sheet as text and answers it as text. The entries sigvort_heap_* and sigvort_list_* take lists of calls as
+   numbers, on memory that the caller lends: a session. Most callers need only the small functions below the entries, which take a struct for that
+   memory. docs/NATIVE.md is the guide, docs/SHEET.md says what the calls do.
+
+   Of every function here: nothing is kept between calls and nothing is allocated, so calls on different memory may run at the same time. A pointer
+   is aligned, good for its whole length, and not null, even for a length of 0. What is written overlaps nothing else that is lent. C99, C11 and C++. */
 #ifndef SIGVORT_H
 #define SIGVORT_H
 
 #include <stddef.h>
 #include <stdint.h>
+#include <string.h>
 
 #ifdef __cplusplus
 extern "C" {
 #endif
+
+/* ---- Call sheets ---- */
 
 /* The longest sheet, in bytes. */
 #define SIGVORT_MAX_SHEET 32768u
@@ -26,9 +36,462 @@ extern "C" {
    returns     the number of bytes written, or one of the two refusals above; then the buffer is unchanged
 
    Bytes behind the sheet's last newline are ignored. A first line that is refused gets its answer and ends the run.
-   The pointers are not null, even for a length of 0, and the two ranges do not overlap. Nothing is kept between calls and nothing
-   is allocated; calls on different buffers may run at the same time. A call takes some 160 KB of stack. */
+   A call takes some 160 KB of stack. */
 uint32_t sigvort_run(const uint8_t *sheet, size_t sheet_len, uint8_t *answers, size_t answers_len);
+
+/* ---- Sessions: numbers ---- */
+
+/* The limits of a session. */
+#define SIGVORT_MAX_VARIABLES 2048u /* variables */
+#define SIGVORT_MAX_CLAUSES 2048u   /* clauses */
+#define SIGVORT_MAX_LITERALS 8192u  /* literals of all clauses */
+#define SIGVORT_MAX_GROUP 2048u     /* variables of a group */
+
+/* No reason, no reply, no level, no variable, a place that is not in use. */
+#define SIGVORT_NONE 4294967295u
+
+/* The value of a variable that is not assigned; 0 is false and 1 is true. */
+#define SIGVORT_UNASSIGNED 2u
+
+/* The words of a call, and of an answer. */
+#define SIGVORT_CALL_WORDS 3u
+#define SIGVORT_ANSWER_WORDS 2u
+
+/* The first word of a call: the letter that it has on a sheet. The second and third word stand behind it; one that is not named is 0. */
+enum sigvort_letter {
+    SIGVORT_BUMP = 98,         /* b: variable */
+    SIGVORT_ENQUEUE = 101,     /* e: code; reason, a clause number or SIGVORT_NONE */
+    SIGVORT_GROUP = 102,       /* f: first place in vars; count */
+    SIGVORT_DECIDE = 103,      /* g: polarity, 0 or 1 */
+    SIGVORT_INSERT = 105,      /* i: variable */
+    SIGVORT_GO_BACK = 107,     /* k: level */
+    SIGVORT_SWITCH_OFF = 111,  /* o: variable */
+    SIGVORT_BUMP_REASON = 114, /* r: variable */
+    SIGVORT_LEARN_UNIT = 117,  /* u: code */
+    SIGVORT_SET_DECAY = 119,   /* w: high half of the double's bits; low half */
+    SIGVORT_DECAY = 121        /* y: no argument */
+};
+
+/* A status that is not 0. Checked are first 4 to 7, which refuse a whole list, then of each call 3 and 8 to 14; the first that fits is given. */
+enum sigvort_refusal {
+    SIGVORT_BAD_FORM = 3,           /* the three words have not the form of a call, or the group does not lie in vars or is too long */
+    SIGVORT_TOO_MANY_VARIABLES = 4, /* n is above SIGVORT_MAX_VARIABLES */
+    SIGVORT_BAD_LENGTH = 5,         /* a length is not n, or not the stated count, or calls and answers do not fit each other */
+    SIGVORT_BAD_CLAUSES = 6,        /* the clause list is not good */
+    SIGVORT_BAD_STATE = 7,          /* the memory holds no good session */
+    SIGVORT_NO_VARIABLE = 8,        /* a variable, or a literal's variable, is n or more */
+    SIGVORT_BAD_POLARITY = 9,       /* the polarity is neither 0 nor 1 */
+    SIGVORT_NO_REASON = 10,         /* the reason is neither SIGVORT_NONE nor a clause number */
+    SIGVORT_ASSIGNED = 11,          /* the variable is assigned; for a unit, at level 0 */
+    SIGVORT_BAD_DECAY = 12,         /* the decay is NaN, below 0.5 or above 1 */
+    SIGVORT_LARGE_STEP = 13,        /* the step would be above 1e200; heap mode only */
+    SIGVORT_STUCK = 14              /* nothing from search on is unassigned, yet some variable is; list mode only */
+};
+
+/* The code of a literal: twice the variable, plus 1 when it is positive. */
+static inline uint32_t sigvort_code(uint32_t variable, int positive)
+{
+    return 2 * variable + (positive ? 1 : 0);
+}
+
+/* ---- Sessions: the entries ----
+
+   Slices go as pointer and length, the small states as pointers to single numbers. These are the same in all four entries:
+
+   n           the number of variables, N
+   literals    the stated length of lits
+   clauses     the stated length of ends, the number of clauses
+   lits        the codes of all clauses, one clause behind the other; only read
+   ends        for each clause the place in lits behind its last code; only read
+   values      N bytes: 0, 1 or SIGVORT_UNASSIGNED
+   levels      N words: the level of each assigned variable
+   reasons     N words: a clause number, or SIGVORT_NONE
+   trail       N words: the codes made true, in their order
+   opened      N words: for each level the trail's length before its decision
+   len         how much of trail is in use
+   level       how much of opened is in use: the present level
+   curr_i      the place from which a solver propagates; going back sets it to the trail's length
+
+   These are of heap mode:
+
+   activity    N doubles: the activity of each variable
+   heap        N words: the members, in heap order
+   indices     N words: the place of each variable in heap, or SIGVORT_NONE
+   decision    N bytes: 1 where the variable is switched on, 0 where it is off
+   members     how much of heap is in use
+   inc, decay  the step that a bump adds, and what it decays by
+
+   And these of list mode:
+
+   next, prev  N words each: the variable behind, and the one before, or SIGVORT_NONE
+   ts          N stamps of 64 bits, falling from the front of the list
+   start       the front of the list, or SIGVORT_NONE
+   search      where the search for an open variable begins, or SIGVORT_NONE
+   timestamp   the next stamp
+
+   A list of calls goes in and its answers come out in three slices:
+
+   vars        the variables of all groups of the list; only read
+   calls       three words for each call, see enum sigvort_letter; only read
+   answers     two words for each call: status, 0 or a refusal; and reply. The reply is the variable decided, or the number undone by going back, and
+               SIGVORT_NONE for other calls, for a decide that finds nothing open, and for refusals. Call i has the words 3i to 3i + 2 of calls, its
+               answer the words 2i and 2i + 1
+
+   Each entry returns 0, or the first refusal of 4 to 7 that fits. Then nothing at all is changed: neither memory nor small states nor answers. */
+
+/* Opens a session in heap mode: all variables unassigned, members and on, activities 0, step 1, decay 0.95.
+
+   reads       n, the counts and the clause list; not what the memory holds, which may be anything
+   writes      all N places of the nine arrays, and the six small states
+   returns     0, or 4, 5, 6
+
+   Stack: not measured yet. */
+uint32_t sigvort_heap_fresh(
+    uint32_t n, uint32_t literals, uint32_t clauses,
+    const uint32_t *lits, size_t lits_len, const uint32_t *ends, size_t ends_len,
+    uint8_t *values, size_t values_len, uint32_t *levels, size_t levels_len, uint32_t *reasons, size_t reasons_len,
+    uint32_t *trail, size_t trail_len, uint32_t *opened, size_t opened_len,
+    double *activity, size_t activity_len, uint32_t *heap, size_t heap_len, uint32_t *indices, size_t indices_len,
+    uint8_t *decision, size_t decision_len,
+    uint32_t *len, uint32_t *level, uint32_t *curr_i, uint32_t *members, double *inc, double *decay);
+
+/* Does a list of calls in heap mode. Clauses and memory are checked once, before the first call; then each call is done or refused by itself, and a
+   refused one changes nothing. An empty list is accepted: it only checks.
+
+   reads       everything lent, vars only where a group names them
+   writes      the nine arrays, the six small states, and all of answers
+   returns     0, or 4, 5, 6, 7; 5 also where calls_len is no multiple of 3, or answers_len is not two for each three of calls_len
+
+   Stack: not measured yet. */
+uint32_t sigvort_heap_calls(
+    uint32_t n, uint32_t literals, uint32_t clauses,
+    const uint32_t *lits, size_t lits_len, const uint32_t *ends, size_t ends_len,
+    uint8_t *values, size_t values_len, uint32_t *levels, size_t levels_len, uint32_t *reasons, size_t reasons_len,
+    uint32_t *trail, size_t trail_len, uint32_t *opened, size_t opened_len,
+    double *activity, size_t activity_len, uint32_t *heap, size_t heap_len, uint32_t *indices, size_t indices_len,
+    uint8_t *decision, size_t decision_len,
+    uint32_t *len, uint32_t *level, uint32_t *curr_i, uint32_t *members, double *inc, double *decay,
+    const uint32_t *vars, size_t vars_len, const uint32_t *calls, size_t calls_len, uint32_t *answers, size_t answers_len);
+
+/* Opens a session in list mode: all variables unassigned, those that occur most in the clauses first, stamps N down to 1, search at the front.
+
+   reads       n, the counts and the clause list; not what the memory holds, which may be anything
+   writes      all N places of the eight arrays, and the six small states
+   returns     0, or 4, 5, 6
+
+   Stack: not measured yet. */
+uint32_t sigvort_list_fresh(
+    uint32_t n, uint32_t literals, uint32_t clauses,
+    const uint32_t *lits, size_t lits_len, const uint32_t *ends, size_t ends_len,
+    uint8_t *values, size_t values_len, uint32_t *levels, size_t levels_len, uint32_t *reasons, size_t reasons_len,
+    uint32_t *trail, size_t trail_len, uint32_t *opened, size_t opened_len,
+    uint32_t *next, size_t next_len, uint32_t *prev, size_t prev_len, uint64_t *ts, size_t ts_len,
+    uint32_t *len, uint32_t *level, uint32_t *curr_i, uint32_t *start, uint32_t *search, uint64_t *timestamp);
+
+/* Does a list of calls in list mode, as sigvort_heap_calls does in heap mode.
+
+   reads       everything lent, vars only where a group names them
+   writes      the eight arrays, the six small states, and all of answers
+   returns     0, or 4, 5, 6, 7; 5 also where calls_len is no multiple of 3, or answers_len is not two for each three of calls_len
+
+   Stack: not measured yet. */
+uint32_t sigvort_list_calls(
+    uint32_t n, uint32_t literals, uint32_t clauses,
+    const uint32_t *lits, size_t lits_len, const uint32_t *ends, size_t ends_len,
+    uint8_t *values, size_t values_len, uint32_t *levels, size_t levels_len, uint32_t *reasons, size_t reasons_len,
+    uint32_t *trail, size_t trail_len, uint32_t *opened, size_t opened_len,
+    uint32_t *next, size_t next_len, uint32_t *prev, size_t prev_len, uint64_t *ts, size_t ts_len,
+    uint32_t *len, uint32_t *level, uint32_t *curr_i, uint32_t *start, uint32_t *search, uint64_t *timestamp,
+    const uint32_t *vars, size_t vars_len, const uint32_t *calls, size_t calls_len, uint32_t *answers, size_t answers_len);
+
+/* ---- The memory of a session ----
+
+   Arrays of sigvort_places(n) places each and the small states, named as the entries name them. A caller may set the pointers itself, or have one block
+   laid out by sigvort_heap_place and sigvort_list_place. The clause list may be changed between lists of calls: a solver that learns lends longer ones. */
+
+/* A session in heap mode. */
+struct sigvort_heap {
+    uint32_t n;
+    /* the clause list, only read */
+    const uint32_t *lits, *ends;
+    uint32_t literals, clauses;
+    /* the trail */
+    uint8_t *values;
+    uint32_t *levels, *reasons, *trail, *opened;
+    uint32_t len, level, curr_i;
+    /* the heap */
+    double *activity;
+    uint32_t *heap, *indices;
+    uint8_t *decision;
+    uint32_t members;
+    double inc, decay;
+};
+
+/* A session in list mode. */
+struct sigvort_list {
+    uint32_t n;
+    /* the clause list, only read */
+    const uint32_t *lits, *ends;
+    uint32_t literals, clauses;
+    /* the trail */
+    uint8_t *values;
+    uint32_t *levels, *reasons, *trail, *opened;
+    uint32_t len, level, curr_i;
+    /* the list */
+    uint32_t *next, *prev;
+    uint64_t *ts;
+    uint32_t start, search;
+    uint64_t timestamp;
+};
+
+/* The places of each array: n, and no more than the limit. With more variables a session is refused, whatever its arrays. */
+static inline size_t sigvort_places(uint32_t n)
+{
+    return n < SIGVORT_MAX_VARIABLES ? n : SIGVORT_MAX_VARIABLES;
+}
+
+/* The bytes of a block for a session of n variables in heap mode. Never 0, so that malloc gives a pointer for n = 0 too. */
+static inline size_t sigvort_heap_bytes(uint32_t n)
+{
+    const size_t bytes = sigvort_places(n) * (sizeof(double) + 6 * sizeof(uint32_t) + 2);
+    return bytes > 0 ? bytes : 1;
+}
+
+/* Lays the arrays out in a block of sigvort_heap_bytes(n) bytes, which is aligned as malloc aligns. The clause list is empty. */
+static inline void sigvort_heap_place(struct sigvort_heap *s, uint32_t n, void *block)
+{
+    const size_t places = sigvort_places(n);
+    double *const doubles = (double *)block;
+    uint32_t *const words = (uint32_t *)(void *)(doubles + places);
+    uint8_t *const bytes = (uint8_t *)(void *)(words + 6 * places);
+    s->n = n;
+    s->lits = s->ends = words;
+    s->literals = s->clauses = 0;
+    s->values = bytes;
+    s->levels = words;
+    s->reasons = words + places;
+    s->trail = words + 2 * places;
+    s->opened = words + 3 * places;
+    s->len = s->level = s->curr_i = 0;
+    s->activity = doubles;
+    s->heap = words + 4 * places;
+    s->indices = words + 5 * places;
+    s->decision = bytes + places;
+    s->members = 0;
+    s->inc = s->decay = 0;
+}
+
+/* The bytes of a block for a session of n variables in list mode. Never 0, so that malloc gives a pointer for n = 0 too. */
+static inline size_t sigvort_list_bytes(uint32_t n)
+{
+    const size_t bytes = sigvort_places(n) * (sizeof(uint64_t) + 6 * sizeof(uint32_t) + 1);
+    return bytes > 0 ? bytes : 1;
+}
+
+/* Lays the arrays out in a block of sigvort_list_bytes(n) bytes, which is aligned as malloc aligns. The clause list is empty. */
+static inline void sigvort_list_place(struct sigvort_list *s, uint32_t n, void *block)
+{
+    const size_t places = sigvort_places(n);
+    uint64_t *const stamps = (uint64_t *)block;
+    uint32_t *const words = (uint32_t *)(void *)(stamps + places);
+    s->n = n;
+    s->lits = s->ends = words;
+    s->literals = s->clauses = 0;
+    s->values = (uint8_t *)(void *)(words + 6 * places);
+    s->levels = words;
+    s->reasons = words + places;
+    s->trail = words + 2 * places;
+    s->opened = words + 3 * places;
+    s->len = s->level = s->curr_i = 0;
+    s->next = words + 4 * places;
+    s->prev = words + 5 * places;
+    s->ts = stamps;
+    s->start = s->search = SIGVORT_NONE;
+    s->timestamp = 0;
+}
+
+/* ---- The entries on a struct ---- */
+
+/* Opens a session in the memory of s: sigvort_heap_fresh. */
+static inline uint32_t sigvort_heap_open(struct sigvort_heap *s)
+{
+    const size_t places = sigvort_places(s->n);
+    return sigvort_heap_fresh(
+        s->n, s->literals, s->clauses, s->lits, s->literals, s->ends, s->clauses,
+        s->values, places, s->levels, places, s->reasons, places, s->trail, places, s->opened, places,
+        s->activity, places, s->heap, places, s->indices, places, s->decision, places,
+        &s->len, &s->level, &s->curr_i, &s->members, &s->inc, &s->decay);
+}
+
+/* Does a list of calls on s: sigvort_heap_calls. */
+static inline uint32_t sigvort_heap_do(
+    struct sigvort_heap *s, const uint32_t *vars, size_t vars_len,
+    const uint32_t *calls, size_t calls_len, uint32_t *answers, size_t answers_len)
+{
+    const size_t places = sigvort_places(s->n);
+    return sigvort_heap_calls(
+        s->n, s->literals, s->clauses, s->lits, s->literals, s->ends, s->clauses,
+        s->values, places, s->levels, places, s->reasons, places, s->trail, places, s->opened, places,
+        s->activity, places, s->heap, places, s->indices, places, s->decision, places,
+        &s->len, &s->level, &s->curr_i, &s->members, &s->inc, &s->decay,
+        vars, vars_len, calls, calls_len, answers, answers_len);
+}
+
+/* Opens a session in the memory of s: sigvort_list_fresh. */
+static inline uint32_t sigvort_list_open(struct sigvort_list *s)
+{
+    const size_t places = sigvort_places(s->n);
+    return sigvort_list_fresh(
+        s->n, s->literals, s->clauses, s->lits, s->literals, s->ends, s->clauses,
+        s->values, places, s->levels, places, s->reasons, places, s->trail, places, s->opened, places,
+        s->next, places, s->prev, places, s->ts, places,
+        &s->len, &s->level, &s->curr_i, &s->start, &s->search, &s->timestamp);
+}
+
+/* Does a list of calls on s: sigvort_list_calls. */
+static inline uint32_t sigvort_list_do(
+    struct sigvort_list *s, const uint32_t *vars, size_t vars_len,
+    const uint32_t *calls, size_t calls_len, uint32_t *answers, size_t answers_len)
+{
+    const size_t places = sigvort_places(s->n);
+    return sigvort_list_calls(
+        s->n, s->literals, s->clauses, s->lits, s->literals, s->ends, s->clauses,
+        s->values, places, s->levels, places, s->reasons, places, s->trail, places, s->opened, places,
+        s->next, places, s->prev, places, s->ts, places,
+        &s->len, &s->level, &s->curr_i, &s->start, &s->search, &s->timestamp,
+        vars, vars_len, calls, calls_len, answers, answers_len);
+}
+
+/* ---- One call at a time ----
+
+   A list of one call: all of the memory is checked for it, so a solver hands over lists where it can. Each function returns 0 or the refusal, be it of
+   the list or of the call. Those with a pointer for the reply write it in any case, SIGVORT_NONE where there is none.
+   Calls that change nothing in a mode have no function of their own; sigvort_heap_one and sigvort_list_one take them by their letter. */
+
+/* Any call but a group that names variables, by its three words. */
+static inline uint32_t sigvort_heap_one(struct sigvort_heap *s, uint32_t letter, uint32_t first, uint32_t second, uint32_t *reply)
+{
+    const uint32_t call[SIGVORT_CALL_WORDS] = {letter, first, second};
+    uint32_t answer[SIGVORT_ANSWER_WORDS] = {0, SIGVORT_NONE};
+    const uint32_t status = sigvort_heap_do(s, call, 0, call, SIGVORT_CALL_WORDS, answer, SIGVORT_ANSWER_WORDS);
+    *reply = answer[1];
+    return status != 0 ? status : answer[0];
+}
+
+/* Adds the step to the variable's activity. */
+static inline uint32_t sigvort_heap_bump(struct sigvort_heap *s, uint32_t variable)
+{
+    uint32_t reply;
+    return sigvort_heap_one(s, SIGVORT_BUMP, variable, 0, &reply);
+}
+
+/* Multiplies the step by 1 / decay. */
+static inline uint32_t sigvort_heap_decay(struct sigvort_heap *s)
+{
+    uint32_t reply;
+    return sigvort_heap_one(s, SIGVORT_DECAY, 0, 0, &reply);
+}
+
+/* Sets the decay, 0.5 to 1. */
+static inline uint32_t sigvort_heap_set_decay(struct sigvort_heap *s, double decay)
+{
+    uint32_t reply;
+    uint64_t bits;
+    memcpy(&bits, &decay, sizeof bits);
+    return sigvort_heap_one(s, SIGVORT_SET_DECAY, (uint32_t)(bits >> 32), (uint32_t)bits, &reply);
+}
+
+/* Puts the variable into the heap, if it is on and no member. */
+static inline uint32_t sigvort_heap_insert(struct sigvort_heap *s, uint32_t variable)
+{
+    uint32_t reply;
+    return sigvort_heap_one(s, SIGVORT_INSERT, variable, 0, &reply);
+}
+
+/* Switches the variable off: it is not decided any more. */
+static inline uint32_t sigvort_heap_switch_off(struct sigvort_heap *s, uint32_t variable)
+{
+    uint32_t reply;
+    return sigvort_heap_one(s, SIGVORT_SWITCH_OFF, variable, 0, &reply);
+}
+
+/* Chooses an open variable, opens a level and gives it the polarity, 0 or 1. The variable is SIGVORT_NONE if nothing is open. */
+static inline uint32_t sigvort_heap_decide(struct sigvort_heap *s, uint32_t polarity, uint32_t *variable)
+{
+    return sigvort_heap_one(s, SIGVORT_DECIDE, polarity, 0, variable);
+}
+
+/* Makes the literal true at the present level, for a clause or for SIGVORT_NONE. */
+static inline uint32_t sigvort_heap_enqueue(struct sigvort_heap *s, uint32_t code, uint32_t reason)
+{
+    uint32_t reply;
+    return sigvort_heap_one(s, SIGVORT_ENQUEUE, code, reason, &reply);
+}
+
+/* Goes back to level 0 and makes the literal true there. */
+static inline uint32_t sigvort_heap_learn_unit(struct sigvort_heap *s, uint32_t code)
+{
+    uint32_t reply;
+    return sigvort_heap_one(s, SIGVORT_LEARN_UNIT, code, 0, &reply);
+}
+
+/* Goes back to the level; tells how many variables were undone. */
+static inline uint32_t sigvort_heap_go_back(struct sigvort_heap *s, uint32_t level, uint32_t *undone)
+{
+    return sigvort_heap_one(s, SIGVORT_GO_BACK, level, 0, undone);
+}
+
+/* Bumps each variable of the variable's reason clause except the first. */
+static inline uint32_t sigvort_heap_bump_reason(struct sigvort_heap *s, uint32_t variable)
+{
+    uint32_t reply;
+    return sigvort_heap_one(s, SIGVORT_BUMP_REASON, variable, 0, &reply);
+}
+
+/* Any call but a group that names variables, by its three words. */
+static inline uint32_t sigvort_list_one(struct sigvort_list *s, uint32_t letter, uint32_t first, uint32_t second, uint32_t *reply)
+{
+    const uint32_t call[SIGVORT_CALL_WORDS] = {letter, first, second};
+    uint32_t answer[SIGVORT_ANSWER_WORDS] = {0, SIGVORT_NONE};
+    const uint32_t status = sigvort_list_do(s, call, 0, call, SIGVORT_CALL_WORDS, answer, SIGVORT_ANSWER_WORDS);
+    *reply = answer[1];
+    return status != 0 ? status : answer[0];
+}
+
+/* Chooses an open variable, opens a level and gives it the polarity, 0 or 1. The variable is SIGVORT_NONE if nothing is open. */
+static inline uint32_t sigvort_list_decide(struct sigvort_list *s, uint32_t polarity, uint32_t *variable)
+{
+    return sigvort_list_one(s, SIGVORT_DECIDE, polarity, 0, variable);
+}
+
+/* Makes the literal true at the present level, for a clause or for SIGVORT_NONE. */
+static inline uint32_t sigvort_list_enqueue(struct sigvort_list *s, uint32_t code, uint32_t reason)
+{
+    uint32_t reply;
+    return sigvort_list_one(s, SIGVORT_ENQUEUE, code, reason, &reply);
+}
+
+/* Goes back to level 0 and makes the literal true there. */
+static inline uint32_t sigvort_list_learn_unit(struct sigvort_list *s, uint32_t code)
+{
+    uint32_t reply;
+    return sigvort_list_one(s, SIGVORT_LEARN_UNIT, code, 0, &reply);
+}
+
+/* Goes back to the level; tells how many variables were undone. */
+static inline uint32_t sigvort_list_go_back(struct sigvort_list *s, uint32_t level, uint32_t *undone)
+{
+    return sigvort_list_one(s, SIGVORT_GO_BACK, level, 0, undone);
+}
+
+/* Moves the variables to the front of the list, the one furthest back first. */
+static inline uint32_t sigvort_list_group(struct sigvort_list *s, const uint32_t *vars, uint32_t count)
+{
+    const uint32_t call[SIGVORT_CALL_WORDS] = {SIGVORT_GROUP, 0, count};
+    uint32_t answer[SIGVORT_ANSWER_WORDS] = {0, SIGVORT_NONE};
+    const uint32_t status = sigvort_list_do(s, vars, count, call, SIGVORT_CALL_WORDS, answer, SIGVORT_ANSWER_WORDS);
+    return status != 0 ? status : answer[0];
+}
 
 #ifdef __cplusplus
 }

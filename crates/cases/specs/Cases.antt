@@ -1,9 +1,8 @@
 -- Cases A to L of document 01 in its order, and its worked sheet. Each is an instance of one claim, `Holds`, and is computed.
 use Prim.Native.Nat.{ℕ}
 use mathlib.Core.Path.{_≡_, refl}
-use mathlib.Core.Bool.{true, false}
 use mathlib.Core.List.{[], _∷_, map}
-use Rattle.lit.specs.Numbers.{NONE}
+use Rattle.lit.specs.Numbers.{NONE, switchedOn, switchedOff}
 use Rattle.formula.specs.declared.checks.SatResult.the-variants.{Err, Sat, Unsat}
 use Rattle.formula.specs.declared.checks.Checked.the-variants.{Answer}
 use Rattle.formula.specs.Checks.{satNumber, checkedNumbers}
@@ -93,7 +92,7 @@ pub case-F : Holds single (record {
   start = single .fresh;
   calls = decide 1 ∷ [];
   answers = says 0 ∷ [];
-  end = record { trail = decidedOne; chooser = emptyOne true };
+  end = record { trail = decidedOne; chooser = emptyOne switchedOn };
 })
 unfolding definitions
 case-F = (refl, refl)
@@ -142,7 +141,7 @@ pub case-J : Holds single (record {
   start = single .fresh;
   calls = switchOff 0 ∷ decide 1 ∷ [];
   answers = passes ∷ saysNone ∷ [];
-  end = record { trail = untouched 1; chooser = emptyOne false };
+  end = record { trail = untouched 1; chooser = emptyOne switchedOff };
 })
 unfolding definitions
 case-J = (refl, refl)
@@ -211,7 +210,7 @@ ledByTwo = record {
   activity = zero ∷ zero ∷ one ∷ [];
   heap = 2 ∷ 1 ∷ 0 ∷ [];
   indices = 2 ∷ 1 ∷ 0 ∷ [];
-  decision = true ∷ true ∷ true ∷ [];
+  decision = switchedOn ∷ switchedOn ∷ switchedOn ∷ [];
   len = 3;
   step = stepOf one usual;
 }

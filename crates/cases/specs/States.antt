@@ -1,11 +1,11 @@
 -- The states that the cases start from and end with, each whole and with its numbers as document 01 has them.
 use Prim.Native.Nat.{ℕ}
 use mathlib.Core.Path.{_≡_, refl}
-use mathlib.Core.Bool.{Bool, true, false}
+use mathlib.Core.Bool.{false}
 use mathlib.Core.List.{List, [], _∷_, _++_}
 use lib.Ieee.{Float, ofBits, binary64, round}
 use lib.ListN.{length, getD, set, drop, replicate}
-use Rattle.lit.specs.Numbers.{NONE, unassigned}
+use Rattle.lit.specs.Numbers.{NONE, unassigned, switchedOn}
 use Rattle.activity.specs.declared.Step.{Step}
 use Rattle.activity.specs.Doubles.{zeroActivity, freshInc, freshDecay, minDecay, limit, maxInc}
 use Rattle.trail.specs.Trail.{Trail}
@@ -73,11 +73,11 @@ stepOf inc decay = record { inc = inc; decay = decay }
 
 -- N = 1: variable 0 is the member, with this activity
 abbrev pub memberOne : Float → Step → Vsids
-memberOne a s = record { activity = a ∷ []; heap = 0 ∷ []; indices = 0 ∷ []; decision = true ∷ []; len = 1; step = s }
+memberOne a s = record { activity = a ∷ []; heap = 0 ∷ []; indices = 0 ∷ []; decision = switchedOn ∷ []; len = 1; step = s }
 
--- N = 1: the heap is empty and the position of variable 0 is NONE; it is on or off
-abbrev pub emptyOne : Bool → Vsids
-emptyOne on = record { activity = zero ∷ []; heap = NONE ∷ []; indices = NONE ∷ []; decision = on ∷ []; len = 0; step = stepOf one usual }
+-- N = 1: the heap is empty and the position of variable 0 is NONE; its switch is this
+abbrev pub emptyOne : ℕ → Vsids
+emptyOne switch = record { activity = zero ∷ []; heap = NONE ∷ []; indices = NONE ∷ []; decision = switch ∷ []; len = 0; step = stepOf one usual }
 
 -- ---- lists
 

@@ -12,13 +12,13 @@ use lib.Dec.{eqb}
 use lib.ListN.{length, getD, set, drop, getD-replicate, length-drop}
 use lib.Seq.{getD-set-same, getD-set-other, getD-drop}
 use Rattle.laws.specs.Tests.{and-left, and-right, true-or-false}
-use Rattle.lit.specs.Numbers.{NONE, maxVars, unassigned}
+use Rattle.lit.specs.Numbers.{NONE, maxVars, unassigned, switchedOn, switchedOff}
 use Rattle.lit.specs.Lits.{index, isAssigned}
 use Rattle.formula.specs.Clauses.{clause}
 use Rattle.formula.specs.Good.{GoodClauses}
 use Rattle.formula.specs.Reading.{clause-below}
 use Rattle.activity.specs.Step.{largeStep}
-use Rattle.vsids.specs.Vsids.{Vsids, new, turnOff, isOpen, Found}
+use Rattle.vsids.specs.Vsids.{Vsids, new, turnOff, isOn, isOpen, Found}
 use Rattle.vsids.specs.Vsids as vsids
 use Rattle.vsids.specs.Good.{GoodHeap, Right}
 use Rattle.vsids.specs.Kept as kept
@@ -45,22 +45,22 @@ heapOps n lits ends = record { State = Vsids; switches = true; start = vsids.new
 -- the heap is good for the values, and its switches are these
 pub record HeapOk (n : ℕ) (values : List ℕ) (on : ℕ → Bool) (h : Vsids) : Type 0 where
   pub good : GoodHeap n values h
-  pub switched : (v : ℕ) → v < n → getD (h .decision) v false ≡ on v
+  pub switched : (v : ℕ) → v < n → isOn (h .decision) v ≡ on v
 
-same-switches : {n : ℕ} {on : ℕ → Bool} {d d′ : List Bool} → d′ ≡ d → ((v : ℕ) → v < n → getD d v false ≡ on v) → (v : ℕ) → v < n → getD d′ v false ≡ on v
-same-switches e f v b = ap (λ (d : List Bool). getD d v false) e ∙ f v b
+same-switches : {n : ℕ} {on : ℕ → Bool} {d d′ : List ℕ} → d′ ≡ d → ((v : ℕ) → v < n → isOn d v ≡ on v) → (v : ℕ) → v < n → isOn d′ v ≡ on v
+same-switches e f v b = ap (λ (d : List ℕ). isOn d v) e ∙ f v b
 
-off-switched : {n : ℕ} {on : ℕ → Bool} (d : List Bool) (v : ℕ) → length d ≡ n → v < n → ((w : ℕ) → w < n → getD d w false ≡ on w)
-    → (w : ℕ) → w < n → getD (set d v false) w false ≡ without v on w
+off-switched : {n : ℕ} {on : ℕ → Bool} (d : List ℕ) (v : ℕ) → length d ≡ n → v < n → ((w : ℕ) → w < n → isOn d w ≡ on w)
+    → (w : ℕ) → w < n → isOn (set d v switchedOff) w ≡ without v on w
 off-switched d v long b f w c =
     by-cases (ℕ-discrete w v)
-    (λ e. rw (e, getD-set-same d v false false (omega arith), eq-eqb v v refl))
-    (λ n. rw (getD-set-other d v w false false n, ne-eqb w v n) (f w c))
+    (λ e. rw (e, getD-set-same d v switchedOff 0 (omega arith), eq-eqb v v refl))
+    (λ n. rw (getD-set-other d v w switchedOff 0 n, ne-eqb w v n) (f w c))
 
 module _ {n : ℕ} {values : List ℕ} {on : ℕ → Bool} (h : Vsids) (q : HeapOk n values on h) where
   open-on : (v : ℕ) → v < n → isOpen values (h .decision) v ≡ true → (on v ≡ true) × (isAssigned values v ≡ false)
   unfolding isOpen
-  open-on v b e = (sym (q .switched v b) ∙ and-left (getD (h .decision) v false) _ e, le-ltb (getD values v 0) unassigned (leb-true unassigned (getD values v 0) (and-right (getD (h .decision) v false) _ e)))
+  open-on v b e = (sym (q .switched v b) ∙ and-left (isOn (h .decision) v) _ e, le-ltb (getD values v 0) unassigned (leb-true unassigned (getD values v 0) (and-right (isOn (h .decision) v) _ e)))
 
   shut-assigned : (v : ℕ) → v < n → on v ≡ true → isOpen values (h .decision) v ≡ false → isAssigned values v ≡ true
   unfolding isOpen
@@ -89,8 +89,8 @@ heap-chooser n lits ends small g = record {
     in-reason : (r : ℕ) → r < length ends → (i : ℕ) → i < length (drop 1 (clause lits ends r)) → index (getD (drop 1 (clause lits ends r)) i 0) < n
     in-reason r b i l = rw (getD-drop 1 (clause lits ends r) i 0) (clause-below g r (1 + i) b (omega (arith, length-drop 1 (clause lits ends r))))
 
-    started : (v : ℕ) → v < n → getD (vsids.new n .decision) v false ≡ true
-    started v b = getD-replicate n v true false b
+    started : (v : ℕ) → v < n → isOn (vsids.new n .decision) v ≡ true
+    started v b = eq-eqb _ _ (getD-replicate n v switchedOn 0 b)
 
     tuned : (t : Tune) (c : Vsids) {values : List ℕ} {on : ℕ → Bool} → fits n (length ends) t ≡ true → HeapOk n values on c → IfSome (HeapOk n values on) (tune lits ends t c)
     tuned (bumpVariable v) c f q = record { good = kept.bump-ok v c (ltb-true v n f) (q .good); switched = same-switches (kept.bump-switches v c) (q .switched) }

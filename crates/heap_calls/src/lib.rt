@@ -46,7 +46,7 @@ fn words_call(
     activity: &mut [f64],
     heap: &mut [u32],
     indices: &mut [u32],
-    decision: &mut [bool],
+    decision: &mut [u8],
     s: HeapState,
 ) -> HeapAnswer
     requires { let t = trailOf (now values) (now levels) (now reasons) (now trail) (now opened) (s .trail) in
@@ -111,7 +111,7 @@ fn one_call(
     activity: &mut [f64],
     heap: &mut [u32],
     indices: &mut [u32],
-    decision: &mut [bool],
+    decision: &mut [u8],
     s: HeapState,
 ) -> HeapState
     requires { ⌜ (i * 3 + 3 ≤ length (now calls)) × (i * 2 + 2 ≤ length (now answers)) ⌝ }
@@ -170,7 +170,7 @@ fn run_calls(
     activity: &mut [f64],
     heap: &mut [u32],
     indices: &mut [u32],
-    decision: &mut [bool],
+    decision: &mut [u8],
     s: HeapState,
 ) -> HeapState
     requires { ⌜ (length (now calls) ≡ count * 3) × (length (now answers) ≡ count * 2) ⌝ }
@@ -231,7 +231,7 @@ pub fn enter(
     activity: &mut [f64],
     heap: &mut [u32],
     indices: &mut [u32],
-    decision: &mut [bool],
+    decision: &mut [u8],
     s: HeapState,
     vars: &[u32],
     calls: &[u32],

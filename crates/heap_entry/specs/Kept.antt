@@ -1,13 +1,12 @@
 -- From a good session in heap mode every call leaves a good session, refused or not; and a fresh session is good.
 use Prim.Native.Nat.{ℕ, _≤_}
 use mathlib.Core.Path.{_≡_, refl, subst}
-use mathlib.Core.Bool.{false}
 use mathlib.Core.List.{List}
-use lib.ListN.{length, getD}
+use lib.ListN.{length}
 use Rattle.lit.specs.Numbers.{maxVars}
 use Rattle.formula.specs.Good.{GoodClauses}
 use Rattle.trail.specs.Trail.{freshTrail}
-use Rattle.vsids.specs.Vsids.{new}
+use Rattle.vsids.specs.Vsids.{new, isOn}
 use Rattle.choosers.specs.Heap.{heapOps, heap-chooser, heap-ok, ok-heap}
 use Rattle.book.specs.Calls.{Call}
 use Rattle.book.specs.Chooser.{Chooser}
@@ -43,7 +42,7 @@ module _ (n m : ℕ) (lits ends : List ℕ) where
   kept s g c =
       let k = either.kept n m (heapOps n lits ends) (chooser n m lits ends (g .small) (g .count) (g .clauses)) s (record {
         trail = g .trail;
-        on = λ v. getD (s .chooser .decision) v false;
+        on = isOn (s .chooser .decision);
         ok = heap-ok n lits ends (g .small) (g .clauses) (record { good = g .heap; switched = λ v b. refl });
       }) c in
       record { small = g .small; count = g .count; clauses = g .clauses; trail = k .trail; heap = ok-heap n lits ends (g .small) (g .clauses) (k .ok) .good }

@@ -45,7 +45,7 @@ pub fn fresh(
     activity: &mut [f64],
     heap: &mut [u32],
     indices: &mut [u32],
-    decision: &mut [bool],
+    decision: &mut [u8],
 ) -> HeapAnswer
     ensures { λ r.
         let before = sessionOf n clauses (now (lits .entry)) (now (ends .entry))

@@ -22,13 +22,7 @@ use vsids::VsidsState;
 pub mod creation;
 
 // Whether the heap's slices have length n.
-fn heap_lengths(
-    n: usize,
-    activity: &[f64],
-    heap: &[u32],
-    indices: &[u32],
-    decision: &[bool],
-) -> bool
+fn heap_lengths(n: usize, activity: &[f64], heap: &[u32], indices: &[u32], decision: &[u8]) -> bool
     ensures { λ r. ⌜ ((s : VsidsState) →
         let h = vsidsOf (now (activity .entry)) (now (heap .entry)) (now (indices .entry)) (now (decision .entry)) s in
         r ≡ heapLengths n h) ⌝ }
@@ -51,7 +45,7 @@ pub fn lengths_ok(
     activity: &[f64],
     heap: &[u32],
     indices: &[u32],
-    decision: &[bool],
+    decision: &[u8],
     scratch: bool,
 ) -> bool
     ensures { λ r. ⌜ ((s : HeapState) →
@@ -88,7 +82,7 @@ pub fn refusal(
     activity: &[f64],
     heap: &[u32],
     indices: &[u32],
-    decision: &[bool],
+    decision: &[u8],
     s: HeapState,
     scratch: bool,
 ) -> u32
@@ -154,7 +148,7 @@ pub fn enter(
     activity: &mut [f64],
     heap: &mut [u32],
     indices: &mut [u32],
-    decision: &mut [bool],
+    decision: &mut [u8],
     s: HeapState,
     call: Call,
     vars: &[u32],

@@ -1,7 +1,6 @@
 -- When a session in heap mode is good, and what each call needs of it.
 use Prim.Native.Nat.{ℕ, _≤_}
 use mathlib.Core.Path.{_≡_}
-use mathlib.Core.Bool.{Bool}
 use mathlib.Core.List.{List}
 use lib.Ieee.{Float}
 use lib.ListN.{length}
@@ -27,7 +26,7 @@ ForValues n h = (values : List ℕ) × GoodHeap n values h
 
 -- and for some switches
 abbrev pub ForSwitches : ℕ → List Float → List ℕ → List ℕ → VsidsState → Type 0
-ForSwitches n activity heap indices s = (decision : List Bool) × ForValues n (vsidsOf activity heap indices decision s)
+ForSwitches n activity heap indices s = (decision : List ℕ) × ForValues n (vsidsOf activity heap indices decision s)
 
 -- what going back needs, and a decide: a good trail and a good heap
 pub record Steady (n : ℕ) (t : Trail) (h : Vsids) : Type 0 where

@@ -1,6 +1,5 @@
 -- A session in heap mode as code holds it: nine lent slices, and the small states of the trail and of the heap by value.
 use Prim.Native.Nat.{ℕ}
-use mathlib.Core.Bool.{Bool}
 use mathlib.Core.List.{List, [], _∷_}
 use lib.Ieee.{Float}
 use Rattle.trail.specs.Memory.{trailOf}
@@ -14,7 +13,7 @@ use Rattle.heap_session.specs.declared.HeapState.{HeapState}
 use Rattle.heap_session.specs.declared.HeapAnswer.{HeapAnswer}
 
 -- the slices' contents and the small states, as the book's session over n variables and m clauses, those of the clause list
-abbrev pub sessionOf : (n m : ℕ) (lits ends values levels reasons trail opened : List ℕ) (activity : List Float) (heap indices : List ℕ) (decision : List Bool) → HeapState → Session n m (heapOps n lits ends)
+abbrev pub sessionOf : (n m : ℕ) (lits ends values levels reasons trail opened : List ℕ) (activity : List Float) (heap indices decision : List ℕ) → HeapState → Session n m (heapOps n lits ends)
 sessionOf n m lits ends values levels reasons trail opened activity heap indices decision s = record {
   trail = trailOf values levels reasons trail opened (s .trail);
   chooser = vsidsOf activity heap indices decision (s .vsids);

@@ -32,7 +32,7 @@ pub fn decide(
     activity: &[f64],
     heap: &mut [u32],
     indices: &mut [u32],
-    decision: &[bool],
+    decision: &[u8],
     s: HeapState,
     p: u32,
 ) -> HeapAnswer
@@ -81,7 +81,7 @@ fn offer_undone(
     activity: &[f64],
     heap: &mut [u32],
     indices: &mut [u32],
-    decision: &[bool],
+    decision: &[u8],
     s: VsidsState,
     trail: &[u32],
     from: u32,
@@ -122,7 +122,7 @@ fn went_back(
     activity: &[f64],
     heap: &mut [u32],
     indices: &mut [u32],
-    decision: &[bool],
+    decision: &[u8],
     s: HeapState,
     level: u32,
 ) -> HeapState
@@ -162,7 +162,7 @@ pub fn go_back(
     activity: &[f64],
     heap: &mut [u32],
     indices: &mut [u32],
-    decision: &[bool],
+    decision: &[u8],
     s: HeapState,
     level: u32,
 ) -> HeapAnswer
@@ -207,7 +207,7 @@ pub fn learn_unit(
     activity: &[f64],
     heap: &mut [u32],
     indices: &mut [u32],
-    decision: &[bool],
+    decision: &[u8],
     s: HeapState,
     code: u32,
 ) -> HeapAnswer

@@ -1,6 +1,5 @@
 // The calls of heap mode that only move the heap's order or change its members and switches.
 ghost use mathlib.Core.Path.{_≡_};
-ghost use mathlib.Core.Bool.{Bool};
 ghost use mathlib.Core.List.{List};
 ghost use Prim.Native.Nat.{ℕ, _<_};
 ghost use lib.Ieee.{Float};
@@ -30,7 +29,7 @@ pub fn bump(
     v: u32,
 ) -> HeapAnswer
     requires { ⌜ ForSwitches n (now activity) (now heap) (now indices) (s .vsids) ⌝ }
-    ensures { λ r. ⌜ ((m : ℕ) (lits ends values levels reasons trail opened : List ℕ) (d : List Bool) →
+    ensures { λ r. ⌜ ((m : ℕ) (lits ends values levels reasons trail opened d : List ℕ) →
         let before = sessionOf n m lits ends values levels reasons trail opened
         (now (activity .entry)) (now (heap .entry)) (now (indices .entry)) d s in
         let after = sessionOf n m lits ends values levels reasons trail opened
@@ -48,7 +47,7 @@ pub fn bump(
 
 // Lets the step grow by the decay, unless it would be too large.
 pub fn decay(s: HeapState) -> HeapAnswer
-    ensures { λ r. ⌜ ((n m : ℕ) (lits ends values levels reasons trail opened : List ℕ) (a : List Float) (h p : List ℕ) (d : List Bool) →
+    ensures { λ r. ⌜ ((n m : ℕ) (lits ends values levels reasons trail opened : List ℕ) (a : List Float) (h p d : List ℕ) →
         let with = sessionOf n m lits ends values levels reasons trail opened a h p d in
         Answers n m lits ends book.decay (with s) r (with (r .state))) ⌝ }
 {
@@ -64,7 +63,7 @@ pub fn decay(s: HeapState) -> HeapAnswer
 
 // Sets the decay to one from 0.5 to 1.
 pub fn set_decay(s: HeapState, decay: f64) -> HeapAnswer
-    ensures { λ r. ⌜ ((n m : ℕ) (lits ends values levels reasons trail opened : List ℕ) (a : List Float) (h p : List ℕ) (d : List Bool) →
+    ensures { λ r. ⌜ ((n m : ℕ) (lits ends values levels reasons trail opened : List ℕ) (a : List Float) (h p d : List ℕ) →
         let with = sessionOf n m lits ends values levels reasons trail opened a h p d in
         Answers n m lits ends (book.setDecay decay) (with s) r (with (r .state))) ⌝ }
 {
@@ -83,7 +82,7 @@ pub fn insert(
     activity: &[f64],
     heap: &mut [u32],
     indices: &mut [u32],
-    decision: &[bool],
+    decision: &[u8],
     s: HeapState,
     v: u32,
 ) -> HeapAnswer
@@ -105,7 +104,7 @@ pub fn insert(
 }
 
 // Switches a variable off: it is never chosen again.
-pub fn switch_off(n: u32, decision: &mut [bool], s: HeapState, v: u32) -> HeapAnswer
+pub fn switch_off(n: u32, decision: &mut [u8], s: HeapState, v: u32) -> HeapAnswer
     requires { ⌜ length (now decision) ≡ n ⌝ }
     ensures { λ r. ⌜ ((m : ℕ) (lits ends values levels reasons trail opened : List ℕ) (a : List Float) (h p : List ℕ) →
         let with = sessionOf n m lits ends values levels reasons trail opened a h p in
@@ -133,7 +132,7 @@ pub fn bump_reason(
     requires { ⌜ GoodClauses n (now lits) (now ends)
         × ((length (now reasons) ≡ n) × ((v : ℕ) → v < n → IsReason (length (now ends)) (getD (now reasons) v 0))) ⌝ }
     requires { ⌜ ForSwitches n (now activity) (now heap) (now indices) (s .vsids) ⌝ }
-    ensures { λ r. ⌜ ((m : ℕ) (values levels trail opened : List ℕ) (d : List Bool) →
+    ensures { λ r. ⌜ ((m : ℕ) (values levels trail opened d : List ℕ) →
         let before = sessionOf n m (now (lits .entry)) (now (ends .entry)) values levels (now (reasons .entry)) trail opened
         (now (activity .entry)) (now (heap .entry)) (now (indices .entry)) d s in
         let after = sessionOf n m (now (lits .entry)) (now (ends .entry)) values levels (now (reasons .entry)) trail opened
@@ -156,7 +155,7 @@ pub fn bump_reason(
 
 // A group changes nothing: its variables are tested.
 pub fn group(n: u32, s: HeapState, vars: &[u32]) -> HeapAnswer
-    ensures { λ r. ⌜ ((m : ℕ) (lits ends values levels reasons trail opened : List ℕ) (a : List Float) (h p : List ℕ) (d : List Bool) →
+    ensures { λ r. ⌜ ((m : ℕ) (lits ends values levels reasons trail opened : List ℕ) (a : List Float) (h p d : List ℕ) →
         let with = sessionOf n m lits ends values levels reasons trail opened a h p d in
         Answers n m lits ends (book.group (now (vars .entry))) (with s) r (with (r .state))) ⌝ }
 {

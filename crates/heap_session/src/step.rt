@@ -42,7 +42,7 @@ pub fn step(
     activity: &mut [f64],
     heap: &mut [u32],
     indices: &mut [u32],
-    decision: &mut [bool],
+    decision: &mut [u8],
     s: HeapState,
     call: Call,
     vars: &[u32],
@@ -146,7 +146,7 @@ pub fn check_state(
     activity: &[f64],
     heap: &[u32],
     indices: &[u32],
-    decision: &[bool],
+    decision: &[u8],
     s: HeapState,
 ) -> bool
     requires { ⌜ Lengths (length (now values)) (now values) (now levels) (now reasons) (now trail) (now opened) ⌝ }

@@ -1,6 +1,5 @@
 // The lines of a session in heap mode on a sheet, once the clause lines are read: the session is made fresh and checked once, and its lines are done.
 ghost use mathlib.Core.Path.{_≡_};
-ghost use mathlib.Core.Bool.{true};
 ghost use Prim.Native.Nat.{_≤_};
 ghost use lib.ListN.{length, replicate};
 ghost use Rattle.lit.specs.Numbers as number;
@@ -18,6 +17,7 @@ use activity::ZERO_ACTIVITY;
 use heap_session::HeapState;
 use lit::MAX_VARS;
 use lit::NONE;
+use lit::ON;
 use lit::UNASSIGNED;
 use sheet::Place;
 use trail::TrailState;
@@ -41,12 +41,12 @@ fn from_fresh(
     activity: &mut [f64],
     heap: &mut [u32],
     indices: &mut [u32],
-    decision: &mut [bool],
+    decision: &mut [u8],
     p: Place,
 ) -> usize
     requires { ⌜ Room (now sheet) p (now out) × (n ≤ number.maxVars) × GoodClauses n (now lits) (now ends) ⌝ }
     requires { ⌜ trailOf (now values) (now levels) (now reasons) (now trail) (now opened) atStart ≡ freshTrail n ⌝ }
-    requires { ⌜ (now activity ≡ replicate n zeroActivity) × (length (now heap) ≡ n) × (length (now indices) ≡ n) × (now decision ≡ replicate n true) ⌝ }
+    requires { ⌜ (now activity ≡ replicate n zeroActivity) × (length (now heap) ≡ n) × (length (now indices) ≡ n) × (now decision ≡ replicate n number.switchedOn) ⌝ }
     ensures { λ r. ⌜ Ended (now (sheet .entry)) p (spec.opened vsids n (now (lits .entry)) (now (ends .entry))) (now (out .entry)) r (now (out .exit)) ⌝ }
 {
     let t = TrailState {
@@ -105,7 +105,7 @@ fn in_arrays(
     opened: &mut [u32],
     activity: &mut [f64],
     heap: &mut [u32],
-    decision: &mut [bool],
+    decision: &mut [u8],
     p: Place,
 ) -> usize
     requires { ⌜ Room (now sheet) p (now out) × (n ≤ number.maxVars) × GoodClauses n (now lits) (now ends) × (n ≤ length (now positions)) ⌝ }
@@ -164,7 +164,7 @@ pub fn answer_few(
     let mut opened = [NONE; FEW as usize];
     let mut activity = [ZERO_ACTIVITY; FEW as usize];
     let mut heap = [NONE; FEW as usize];
-    let mut decision = [true; FEW as usize];
+    let mut decision = [ON; FEW as usize];
     in_arrays(
         sheet,
         out,
@@ -204,7 +204,7 @@ fn in_many(
     let mut opened = [NONE; MANY as usize];
     let mut activity = [ZERO_ACTIVITY; MANY as usize];
     let mut heap = [NONE; MANY as usize];
-    let mut decision = [true; MANY as usize];
+    let mut decision = [ON; MANY as usize];
     in_arrays(
         sheet,
         out,
@@ -250,7 +250,7 @@ pub fn answer_lines(
     let mut opened = [NONE; ALL as usize];
     let mut activity = [ZERO_ACTIVITY; ALL as usize];
     let mut heap = [NONE; ALL as usize];
-    let mut decision = [true; ALL as usize];
+    let mut decision = [ON; ALL as usize];
     in_arrays(
         sheet,
         out,

@@ -1,6 +1,5 @@
 // A line of a session in heap mode: a call, done and answered.
 ghost use mathlib.Core.Path.{_≡_};
-ghost use mathlib.Core.Bool.{Bool};
 ghost use mathlib.Core.List.{List};
 ghost use Prim.Native.Nat.{ℕ, _+_, _<_};
 ghost use lib.Ieee.{Float};
@@ -37,7 +36,7 @@ pub struct HeapPlace {
 // A group's line, with scratch for its variables: they are tested, and nothing changes.
 fn group_with(line: &[u8], n: u32, s: HeapState, vars: &mut [u32]) -> HeapAnswer
     requires { ⌜ Fits (now line) (now vars) ⌝ }
-    ensures { λ r. ⌜ ((m : ℕ) (lits ends values levels reasons trail opened : List ℕ) (a : List Float) (h p : List ℕ) (d : List Bool) →
+    ensures { λ r. ⌜ ((m : ℕ) (lits ends values levels reasons trail opened : List ℕ) (a : List Float) (h p d : List ℕ) →
         let before = sessionOf n m lits ends values levels reasons trail opened a h p d s in
         let after = sessionOf n m lits ends values levels reasons trail opened a h p d (r .state) in
         Answered (called n m (heapOps n lits ends) before (groupOn (now (line .entry)))) before (r .status) (r .reply) after) ⌝ }
@@ -50,7 +49,7 @@ fn group_with(line: &[u8], n: u32, s: HeapState, vars: &mut [u32]) -> HeapAnswer
 
 // The same with scratch of its own, less for a short line.
 fn group_line(line: &[u8], n: u32, s: HeapState) -> HeapAnswer
-    ensures { λ r. ⌜ ((m : ℕ) (lits ends values levels reasons trail opened : List ℕ) (a : List Float) (h p : List ℕ) (d : List Bool) →
+    ensures { λ r. ⌜ ((m : ℕ) (lits ends values levels reasons trail opened : List ℕ) (a : List Float) (h p d : List ℕ) →
         let before = sessionOf n m lits ends values levels reasons trail opened a h p d s in
         let after = sessionOf n m lits ends values levels reasons trail opened a h p d (r .state) in
         Answered (called n m (heapOps n lits ends) before (groupOn (now (line .entry)))) before (r .status) (r .reply) after) ⌝ }
@@ -78,7 +77,7 @@ fn line_call(
     activity: &mut [f64],
     heap: &mut [u32],
     indices: &mut [u32],
-    decision: &mut [bool],
+    decision: &mut [u8],
     s: HeapState,
 ) -> HeapAnswer
     requires { ⌜ GoodSession n m (now lits) (now ends) (trailOf (now values) (now levels) (now reasons) (now trail) (now opened) (s .trail)) (vsidsOf (now activity) (now heap) (now indices) (now decision) (s .vsids)) ⌝ }
@@ -129,7 +128,7 @@ pub fn next_line(
     activity: &mut [f64],
     heap: &mut [u32],
     indices: &mut [u32],
-    decision: &mut [bool],
+    decision: &mut [u8],
     s: HeapPlace,
 ) -> HeapPlace
     requires { ⌜ Room (now sheet) (s .place) (now out) × (0 < s .place .left) ⌝ }

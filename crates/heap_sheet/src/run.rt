@@ -24,7 +24,7 @@ pub fn heap_lines(
     activity: &mut [f64],
     heap: &mut [u32],
     indices: &mut [u32],
-    decision: &mut [bool],
+    decision: &mut [u8],
     s: HeapPlace,
 ) -> usize
     requires { ⌜ Room (now sheet) (s .place) (now out) ⌝ }

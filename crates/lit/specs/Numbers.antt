@@ -9,6 +9,13 @@ NONE = 4294967295
 abbrev pub unassigned : ℕ
 unassigned = 2
 
+-- a switch: on, off
+abbrev pub switchedOn : ℕ
+switchedOn = 1
+
+abbrev pub switchedOff : ℕ
+switchedOff = 0
+
 -- limits: variables, clauses, literals, variables in a group
 abbrev pub maxVars : ℕ
 maxVars = 2048

@@ -8,6 +8,11 @@ pub const NONE: u32 = 4294967295;
 
 pub const UNASSIGNED: u8 = 2;
 
+// A switch.
+pub const ON: u8 = 1;
+
+pub const OFF: u8 = 0;
+
 // Limits.
 pub const MAX_VARS: u32 = 2048;
 

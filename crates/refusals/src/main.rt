@@ -4,19 +4,21 @@ use activity::Step;
 use heap_session::HeapState;
 use list_session::ListState;
 use lit::NONE;
+use lit::ON;
 use session::Call;
 use trail::TrailState;
 use vmtf::VmtfState;
 use vsids::VsidsState;
 
 // What is lent for a call: the number of variables and of literals as stated, whether a group's variables are left out beside its scratch,
-// the second literal's code, the second variable's value, the list's search and the heap's step.
+// the second literal's code, the second variable's value and switch, the list's search and the heap's step.
 pub struct Lent {
     pub vars: u32,
     pub literals: u32,
     pub empty: bool,
     pub code: u32,
     pub value: u8,
+    pub switch: u8,
     pub search: u32,
     pub inc: f64,
 }
@@ -29,6 +31,7 @@ fn good() -> Lent {
         empty: false,
         code: 3,
         value: 2,
+        switch: ON,
         search: 1,
         inc: 1.0,
     }
@@ -108,7 +111,7 @@ fn make_heap(due: u32, lent: Lent) {
     let mut activity = [0.0; 2];
     let mut heap = [NONE; 2];
     let mut indices = [NONE; 2];
-    let mut decision = [true; 2];
+    let mut decision = [ON; 2];
     let a = heap_entry::creation::fresh(
         lent.vars,
         lent.literals,
@@ -187,7 +190,7 @@ fn try_heap(due: u32, lent: Lent, call: Call) {
     let mut activity = [0.0; 2];
     let mut heap = [0, 1];
     let mut indices = [0, 1];
-    let mut decision = [true; 2];
+    let mut decision = [ON, lent.switch];
     let vars = [1u32; 1];
     let stamps = [0u64; 1];
     let order = [0u32; 1];
@@ -266,6 +269,9 @@ fn try_memory() {
     value.value = 3;
     make_both(0, value);
     try_both(7, value, Call::Bump(2));
+    let mut byte = good();
+    byte.switch = 2;
+    try_heap(7, byte, Call::Decay);
 }
 
 // The arguments of calls.

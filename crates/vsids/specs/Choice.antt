@@ -26,6 +26,7 @@ module _ {n : ℕ} {values : List ℕ} (h : Vsids) (g : GoodHeap n values h) (z 
     ordered = remove-order (comes-order (g .scores)) (places h) (g .inverse .room) z (g .ordered);
     scores = g .scores;
     switches = g .switches;
+    on-or-off = g .on-or-off;
     open-in = λ u l q. let w = f u q in remove-member (before h) (omega (arith, g .inverse .room .fits, g .inverse .room .small)) (places h) u (w .1) (g .open-in u l (w .0));
   }
 

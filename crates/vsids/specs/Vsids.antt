@@ -1,11 +1,11 @@
 -- The heap chooser (`VSIDS` of `decision.rs`): its memory as a record, and its operations on that.
 use Prim.Native.Nat.{ℕ, zero, suc, _+_, _-_}
-use mathlib.Core.Bool.{Bool, true, false, _&&_, not, cond}
+use mathlib.Core.Bool.{Bool, _&&_, not, cond}
 use mathlib.Core.List.{List, [], _∷_}
-use lib.Dec.{leb}
+use lib.Dec.{leb, eqb}
 use lib.Ieee.{Float, nan, binary64, add, lt}
 use lib.ListN.{getD, set, replicate, drop}
-use Rattle.lit.specs.Numbers.{unassigned}
+use Rattle.lit.specs.Numbers.{unassigned, switchedOn, switchedOff}
 use Rattle.lit.specs.Lits.{index}
 use Rattle.activity.specs.declared.Step.{Step}
 use Rattle.activity.specs.Doubles.{zeroActivity, limit}
@@ -21,13 +21,13 @@ pub record Vsids : Type 0 where
   pub activity : List Float
   pub heap : List ℕ
   pub indices : List ℕ
-  pub decision : List Bool
+  pub decision : List ℕ
   -- how many members, and `var_inc` with `var_decay`
   pub len : ℕ
   pub step : Step
 
 -- the lent slices and the state by value
-abbrev pub vsidsOf : List Float → List ℕ → List ℕ → List Bool → VsidsState → Vsids
+abbrev pub vsidsOf : List Float → List ℕ → List ℕ → List ℕ → VsidsState → Vsids
 vsidsOf a h p d s = record { activity = a; heap = h; indices = p; decision = d; len = s .len; step = s .step }
 
 -- the members and positions; the same chooser with others, k of them in use; with other activities and step; the order of its members
@@ -48,11 +48,14 @@ unfoldable pub new : ℕ → Vsids
 new n =
     let a = replicate n zeroActivity in
     let s = build (comesFirst a) n in
-    record { activity = a; heap = s .heap; indices = s .indices; decision = replicate n true; len = n; step = freshStep }
+    record { activity = a; heap = s .heap; indices = s .indices; decision = replicate n switchedOn; len = n; step = freshStep }
 
--- switched on and unassigned
-unfoldable pub isOpen : List ℕ → List Bool → ℕ → Bool
-isOpen values decision v = getD decision v false && leb unassigned (getD values v 0)
+-- switched on; and unassigned as well
+abbrev pub isOn : List ℕ → ℕ → Bool
+isOn decision v = eqb (getD decision v 0) switchedOn
+
+unfoldable pub isOpen : List ℕ → List ℕ → ℕ → Bool
+isOpen values decision v = isOn decision v && leb unassigned (getD values v 0)
 
 -- `get_next`: members come off the top until one is open
 unfoldable pub removeFirst : Vsids → Vsids
@@ -72,7 +75,7 @@ unfoldable pub getNext : List ℕ → Vsids → Found
 getNext values h = getNextOf (h .len) values h
 
 -- the code's answer with the memory it leaves
-abbrev pub foundOf : List Float → List ℕ → List ℕ → List Bool → Next → Found
+abbrev pub foundOf : List Float → List ℕ → List ℕ → List ℕ → Next → Found
 foundOf a h p d (Chose v s) = chose v (vsidsOf a h p d s)
 foundOf a h p d (Nothing s) = nothing (vsidsOf a h p d s)
 
@@ -102,11 +105,11 @@ bumpReasonLiterals clause h = bumpAll (drop 1 clause) h
 
 -- `insert`: only what is no member and is switched on
 unfoldable pub insert : ℕ → Vsids → Vsids
-insert v h = cond (not (inHeap (h .indices) v) && getD (h .decision) v false) (withPlaces (h .len + 1) (moves.insert (before h) (h .len) v (places h)) h) h
+insert v h = cond (not (inHeap (h .indices) v) && isOn (h .decision) v) (withPlaces (h .len + 1) (moves.insert (before h) (h .len) v (places h)) h) h
 
 -- `turn_off_decision_for_idx`
 unfoldable pub turnOff : ℕ → Vsids → Vsids
-turnOff v h = record { activity = h .activity; heap = h .heap; indices = h .indices; decision = set (h .decision) v false; len = h .len; step = h .step }
+turnOff v h = record { activity = h .activity; heap = h .heap; indices = h .indices; decision = set (h .decision) v switchedOff; len = h .len; step = h .step }
 
 -- `decay_var_inc` and `set_var_decay`
 abbrev pub decayVarInc : Vsids → Vsids

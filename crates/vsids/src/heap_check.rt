@@ -4,6 +4,7 @@ use crate::is_open;
 use activity::MAX_ACTIVITY;
 use activity::ZERO_ACTIVITY;
 use lit::NONE;
+use lit::OFF;
 ghost use mathlib.Core.Path.{_≡_};
 ghost use Prim.Native.Nat.{ℕ, _<_, _≤_};
 ghost use lib.ListN.{length, getD};
@@ -48,6 +49,21 @@ fn places_ok(activity: &[f64], heap: &[u32], indices: &[u32], len: u32) -> bool
         i += 1;
     }
     true
+}
+
+// Whether every switch is on or off.
+fn switches_ok(decision: &[u8]) -> bool
+    ensures { λ r. ⌜ r ≡ every (check.switchOk (now (decision .entry))) (length (now (decision .entry))) ⌝ }
+{
+    let mut most = OFF;
+    let mut v = 0;
+    while v < decision.len() {
+        if decision[v] > most {
+            most = decision[v];
+        }
+        v += 1;
+    }
+    most < 2
 }
 
 // Whether every activity is at most `hi`, without sign and no NaN.
@@ -104,7 +120,7 @@ fn position_ok(
     activity: &[f64],
     heap: &[u32],
     indices: &[u32],
-    decision: &[bool],
+    decision: &[u8],
     s: VsidsState,
     v: usize,
 ) -> bool
@@ -129,7 +145,7 @@ fn positions_ok(
     activity: &[f64],
     heap: &[u32],
     indices: &[u32],
-    decision: &[bool],
+    decision: &[u8],
     s: VsidsState,
 ) -> bool
     requires { ⌜ SameLengths (length (now activity)) (now values) (now heap) (now indices) (now decision) ⌝ }
@@ -146,14 +162,14 @@ fn positions_ok(
     true
 }
 
-// Whether lent memory is a good heap for these values. An untouched heap is good; where every variable is a member, good places leave no
-// position to be tested.
+// Whether lent memory is a good heap for these values. With a good step and good switches an untouched heap is good; where every variable
+// is a member, good places leave no position to be tested.
 pub fn check_heap(
     values: &[u8],
     activity: &[f64],
     heap: &[u32],
     indices: &[u32],
-    decision: &[bool],
+    decision: &[u8],
     s: VsidsState,
 ) -> bool
     requires { ⌜ SameLengths (length (now activity)) (now values) (now heap) (now indices) (now decision) ⌝ }
@@ -165,6 +181,9 @@ pub fn check_heap(
         return false;
     }
     if !activity::good_step(step) {
+        return false;
+    }
+    if !switches_ok(decision) {
         return false;
     }
     if untouched(activity, heap, indices, len) {

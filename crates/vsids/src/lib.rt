@@ -2,14 +2,16 @@
 use activity::LIMIT;
 use activity::Step;
 use activity::ZERO_ACTIVITY;
+use lit::OFF;
+use lit::ON;
 use lit::UNASSIGNED;
 ghost use mathlib.Core.Path.{_≡_};
 ghost use mathlib.Core.List.{List};
-ghost use mathlib.Core.Bool.{Bool, true, false};
+ghost use mathlib.Core.Bool.{false};
 ghost use Prim.Native.Nat.{ℕ, _<_, _≤_};
 ghost use lib.Ieee.{Float};
 ghost use lib.ListN.{length, getD, replicate};
-ghost use Rattle.lit.specs.Numbers.{maxVars};
+ghost use Rattle.lit.specs.Numbers.{maxVars, switchedOn};
 ghost use Rattle.lit.specs.Lits.{index};
 ghost use Rattle.activity.specs.Doubles.{zeroActivity};
 ghost use Rattle.heap.specs.Heap.{placesOf, inHeap};
@@ -33,15 +35,15 @@ pub enum Next {
 }
 
 // Activities of 0, and all variables switched on.
-fn fill_fresh(activity: &mut [f64], decision: &mut [bool])
+fn fill_fresh(activity: &mut [f64], decision: &mut [u8])
     requires { ⌜ length (now decision) ≡ length (now activity) ⌝ }
-    ensures { λ _. ⌜ (now (activity .exit) ≡ replicate (length (now (activity .entry))) zeroActivity) × (now (decision .exit) ≡ replicate (length (now (activity .entry))) true) ⌝ }
+    ensures { λ _. ⌜ (now (activity .exit) ≡ replicate (length (now (activity .entry))) zeroActivity) × (now (decision .exit) ≡ replicate (length (now (activity .entry))) switchedOn) ⌝ }
 {
     let n = activity.len();
     let mut i = 0;
     while i < n {
         activity[i] = ZERO_ACTIVITY;
-        decision[i] = true;
+        decision[i] = ON;
         i += 1;
     }
 }
@@ -49,7 +51,7 @@ fn fill_fresh(activity: &mut [f64], decision: &mut [bool])
 // All variables as members in the order of their numbers, and the fresh step: a fresh chooser, where activities and switches are fresh.
 pub fn all_members(heap: &mut [u32], indices: &mut [u32]) -> VsidsState
     requires { ⌜ (length (now heap) ≤ maxVars) × (length (now indices) ≡ length (now heap)) ⌝ }
-    ensures { λ r. ⌜ vsidsOf (replicate (length (now (heap .entry))) zeroActivity) (now (heap .exit)) (now (indices .exit)) (replicate (length (now (heap .entry))) true) r ≡ spec.new (length (now (heap .entry))) ⌝ }
+    ensures { λ r. ⌜ vsidsOf (replicate (length (now (heap .entry))) zeroActivity) (now (heap .exit)) (now (indices .exit)) (replicate (length (now (heap .entry))) switchedOn) r ≡ spec.new (length (now (heap .entry))) ⌝ }
 {
     let n = heap.len();
     let mut i = 0;
@@ -70,7 +72,7 @@ pub fn new(
     activity: &mut [f64],
     heap: &mut [u32],
     indices: &mut [u32],
-    decision: &mut [bool],
+    decision: &mut [u8],
 ) -> VsidsState
     requires { ⌜ length (now activity) ≤ maxVars ⌝ }
     requires { ⌜ (length (now heap) ≡ length (now activity)) × ((length (now indices) ≡ length (now activity)) × (length (now decision) ≡ length (now activity))) ⌝ }
@@ -82,11 +84,11 @@ pub fn new(
 }
 
 // Whether a variable is switched on and unassigned.
-pub fn is_open(values: &[u8], decision: &[bool], v: u32) -> bool
+pub fn is_open(values: &[u8], decision: &[u8], v: u32) -> bool
     requires { ⌜ (v < length (now values)) × (v < length (now decision)) ⌝ }
     ensures { λ r. ⌜ r ≡ spec.isOpen (now (values .entry)) (now (decision .entry)) v ⌝ }
 {
-    decision[v as usize] && values[v as usize] >= UNASSIGNED
+    decision[v as usize] == ON && values[v as usize] >= UNASSIGNED
 }
 
 // Takes members off the top, drops those that are off or assigned, and answers the first other one.
@@ -95,7 +97,7 @@ pub fn get_next(
     activity: &[f64],
     heap: &mut [u32],
     indices: &mut [u32],
-    decision: &[bool],
+    decision: &[u8],
     s: VsidsState,
 ) -> Next
     requires { ⌜ Room (length (now activity)) (s .len) (placesOf (now heap) (now indices)) ⌝ }
@@ -119,7 +121,7 @@ pub fn get_next(
 // Adds the step to the activity of var with one rounding, and hands the step back. Strictly above 1e100 every activity and the step are scaled.
 fn add_step(activity: &mut [f64], step: Step, var: u32) -> Step
     requires { ⌜ var < length (now activity) ⌝ }
-    ensures { λ r. ⌜ ((k : ℕ) (h p : List ℕ) (d : List Bool) → vsidsOf (now (activity .exit)) h p d (record { len = k; step = r })
+    ensures { λ r. ⌜ ((k : ℕ) (h p d : List ℕ) → vsidsOf (now (activity .exit)) h p d (record { len = k; step = r })
         ≡ spec.rescale var (spec.addStep var (vsidsOf (now (activity .entry)) h p d (record { len = k; step = step })))) ⌝ }
 {
     let inc = step.inc;
@@ -142,7 +144,7 @@ pub fn bump_variable(
     requires { ⌜ Room (length (now activity)) (s .len) (placesOf (now heap) (now indices)) ⌝ }
     requires { ⌜ Placed (length (now activity)) (s .len) (now indices) ⌝ }
     requires { ⌜ var < length (now activity) ⌝ }
-    ensures { λ r. ⌜ ((d : List Bool) → let before = vsidsOf (now (activity .entry)) (now (heap .entry)) (now (indices .entry)) d s
+    ensures { λ r. ⌜ ((d : List ℕ) → let before = vsidsOf (now (activity .entry)) (now (heap .entry)) (now (indices .entry)) d s
         in let after = vsidsOf (now (activity .exit)) (now (heap .exit)) (now (indices .exit)) d r
         in after ≡ spec.bumpVariable var before) ⌝ }
 {
@@ -165,7 +167,7 @@ pub fn bump_reason_literals(
     requires { ⌜ Room (length (now activity)) (s .len) (placesOf (now heap) (now indices)) ⌝ }
     requires { ⌜ Placed (length (now activity)) (s .len) (now indices) ⌝ }
     requires { ⌜ ((i : ℕ) → i < length (now clause) → index (getD (now clause) i 0) < length (now activity)) ⌝ }
-    ensures { λ r. ⌜ ((d : List Bool) → let before = vsidsOf (now (activity .entry)) (now (heap .entry)) (now (indices .entry)) d s
+    ensures { λ r. ⌜ ((d : List ℕ) → let before = vsidsOf (now (activity .entry)) (now (heap .entry)) (now (indices .entry)) d s
         in let after = vsidsOf (now (activity .exit)) (now (heap .exit)) (now (indices .exit)) d r
         in after ≡ spec.bumpReasonLiterals (now (clause .entry)) before) ⌝ }
 {
@@ -183,7 +185,7 @@ pub fn insert(
     activity: &[f64],
     heap: &mut [u32],
     indices: &mut [u32],
-    decision: &[bool],
+    decision: &[u8],
     s: VsidsState,
     var: u32,
 ) -> VsidsState
@@ -196,7 +198,7 @@ pub fn insert(
 {
     let step = s.step;
     let mut len = s.len;
-    if !heap::members::in_heap(indices, var) && decision[var as usize] {
+    if !heap::members::in_heap(indices, var) && decision[var as usize] == ON {
         heap::members::insert(activity, heap, indices, len, var);
         len += 1;
     }
@@ -204,16 +206,16 @@ pub fn insert(
 }
 
 // Switches var off: it is never chosen again.
-pub fn turn_off_decision_for_idx(decision: &mut [bool], var: u32)
+pub fn turn_off_decision_for_idx(decision: &mut [u8], var: u32)
     requires { ⌜ var < length (now decision) ⌝ }
     ensures { λ _. ⌜ ((a : List Float) (h p : List ℕ) (s : VsidsState) → vsidsOf a h p (now (decision .exit)) s ≡ spec.turnOff var (vsidsOf a h p (now (decision .entry)) s)) ⌝ }
 {
-    decision[var as usize] = false;
+    decision[var as usize] = OFF;
 }
 
 // Multiplies the step by the rounded quotient 1 / decay.
 pub fn decay_var_inc(s: VsidsState) -> VsidsState
-    ensures { λ r. ⌜ ((a : List Float) (h p : List ℕ) (d : List Bool) → vsidsOf a h p d r ≡ spec.decayVarInc (vsidsOf a h p d s)) ⌝ }
+    ensures { λ r. ⌜ ((a : List Float) (h p d : List ℕ) → vsidsOf a h p d r ≡ spec.decayVarInc (vsidsOf a h p d s)) ⌝ }
 {
     VsidsState {
         len: s.len,
@@ -223,7 +225,7 @@ pub fn decay_var_inc(s: VsidsState) -> VsidsState
 
 // Sets the decay.
 pub fn set_var_decay(s: VsidsState, decay: f64) -> VsidsState
-    ensures { λ r. ⌜ ((a : List Float) (h p : List ℕ) (d : List Bool) → vsidsOf a h p d r ≡ spec.setVarDecay decay (vsidsOf a h p d s)) ⌝ }
+    ensures { λ r. ⌜ ((a : List Float) (h p d : List ℕ) → vsidsOf a h p d r ≡ spec.setVarDecay decay (vsidsOf a h p d s)) ⌝ }
 {
     VsidsState {
         len: s.len,

@@ -17,6 +17,6 @@ fn main() -> io::Result<()> {
     let mut out = io::stdout();
     match sigvort::run(&sheet, &mut answers) {
         Ok(len) => out.write_all(&answers[..len]),
-        Err(refusal) => writeln!(out, "{}", refusal as u32),
+        Err(refusal) => writeln!(out, "{}", refusal.number()),
     }
 }

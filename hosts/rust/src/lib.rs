@@ -1,48 +1,91 @@
-//! A safe call of the proved option chooser.
+//! The proved option chooser of a SAT solver: which open variable to decide next, by activity or by a move-to-front list, with the trail.
+//!
+//! The chooser is written in Rattle and proved against its contracts; this crate links it as a static library and has no `unsafe` in its interface beside
+//! the raw entries in [`ffi`]. `docs/NATIVE.md` is the guide, `docs/SHEET.md` says what each call does, `docs/PROMISES.md` what is proved.
+//!
+//! A [`Session`] holds the variables, the trail and the chooser. A solver propagates on values of its own and tells the session what it found, in lists
+//! of calls, a [`Batch`] each: before a decision the literals enqueued since the last list, then the decision; at a conflict the bumps, a decay, and going
+//! back.
+//!
+//! ```
+//! use sigvort::{Batch, Lit, Session};
+//!
+//! let mut session = Session::heap(4)?;
+//! let mut batch = Batch::new();
+//!
+//! // decide, after what was propagated
+//! batch.enqueue(Lit::new(3, false), None);
+//! let decided = batch.decide(true);
+//! session.batch(&mut batch)?;
+//! assert_eq!(batch.answer(decided)?, Some(0));
+//!
+//! // a conflict that variables 1 and 2 took part in
+//! batch.clear();
+//! batch.bump(1);
+//! batch.bump(2);
+//! batch.decay();
+//! let back = batch.go_back(0);
+//! session.batch(&mut batch)?;
+//! assert_eq!(batch.answer(back)?, Some(1));
+//! # Ok::<(), sigvort::Refusal>(())
+//! ```
+//!
+//! [`run`] takes whole call sheets as text.
+//!
+//! # Linking
+//!
+//! The build script links `libdesk.a` from the folder that the environment variable `SIGVORT_LIB_DIR` names, or else from where `rt staticlib desk` writes it. The
+//! archive and this crate are of one release: a status that this crate does not know makes a call panic.
 
-use std::{error::Error, fmt};
+#![deny(missing_docs)]
+
+mod batch;
+mod call;
+mod clauses;
+pub mod ffi;
+mod lit;
+mod memory;
+mod refusal;
+mod session;
+
+pub use batch::Batch;
+pub use call::{Decision, Reply};
+pub use clauses::Clauses;
+pub use lit::Lit;
+pub use memory::{HeapMemory, HeapState, ListMemory, ListState};
+pub use refusal::Refusal;
+pub use session::{Mode, Session};
+
+/// No reason, no variable, a place that is not in use: the number that stands for none in lent memory.
+pub const NONE: u32 = u32::MAX;
+
+/// The most variables of a session.
+pub const MAX_VARIABLES: u32 = 2_048;
+
+/// The most clauses of a list.
+pub const MAX_CLAUSES: u32 = 2_048;
+
+/// The most literals of all clauses of a list.
+pub const MAX_LITERALS: u32 = 8_192;
+
+/// The most variables of a group.
+pub const MAX_GROUP: u32 = 2_048;
 
 /// The bytes of the answer buffer that each newline of a sheet needs.
 pub const ANSWER_ROOM: usize = 24;
 
-/// The chooser's entry as it is exported.
-pub mod ffi {
-    extern "C" {
-        /// Runs the sheet, writes its answers to the front of the buffer and returns how many bytes it wrote, or 4294967295 less the number
-        /// of the refusal.
-        ///
-        /// # Safety
-        ///
-        /// `sheet` is readable for `sheet_len` bytes and `answers` writable for `answers_len` bytes; the two don't overlap, and neither is null,
-        /// even for a length of 0.
-        pub fn sigvort_run(sheet: *const u8, sheet_len: usize, answers: *mut u8, answers_len: usize) -> u32;
-    }
-}
-
-/// Why a sheet is not run at all.
-#[derive(Clone, Copy, Debug, PartialEq, Eq)]
-pub enum Refusal {
-    /// The sheet has more than 32,768 bytes.
-    SheetTooLong = 1,
-    /// The answer buffer has fewer than [`ANSWER_ROOM`] bytes for each newline of the sheet.
-    BufferTooShort = 2,
-}
-
-impl fmt::Display for Refusal {
-    fn fmt(&self, f: &mut fmt::Formatter<'_>) -> fmt::Result {
-        f.write_str(match self {
-            Refusal::SheetTooLong => "the sheet is too long",
-            Refusal::BufferTooShort => "the answer buffer is too short",
-        })
-    }
-}
-
-impl Error for Refusal {}
-
 /// Runs a sheet and writes its answers to the front of the buffer; the bytes behind them stay as they were. Returns the answers' length.
+///
+/// ```
+/// let sheet = b"n\t1\tvsids\ng\t1\n";
+/// let mut answers = [0; 2 * sigvort::ANSWER_ROOM];
+/// let len = sigvort::run(sheet, &mut answers)?;
+/// assert_eq!(&answers[..len], b"1\t0\t-\n2\t0\t0\n");
+/// # Ok::<(), sigvort::Refusal>(())
+/// ```
 pub fn run(sheet: &[u8], answers: &mut [u8]) -> Result<usize, Refusal> {
-    const TOO_LONG: u32 = u32::MAX - Refusal::SheetTooLong as u32;
-    const TOO_SHORT: u32 = u32::MAX - Refusal::BufferTooShort as u32;
+    const TOO_LONG: u32 = u32::MAX - Refusal::SheetTooLong.number();
+    const TOO_SHORT: u32 = u32::MAX - Refusal::BufferTooShort.number();
     // SAFETY: both slices are valid for their lengths, and a slice that is written overlaps no other.
     match unsafe { ffi::sigvort_run(sheet.as_ptr(), sheet.len(), answers.as_mut_ptr(), answers.len()) } {
         TOO_LONG => Err(Refusal::SheetTooLong),

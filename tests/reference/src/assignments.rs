@@ -3,7 +3,7 @@ use std::ops::{Index, IndexMut};
 const UNASSIGNED: u8 = 2;
 
 /// The value of each variable: 0, 1, or 2 while it is unassigned.
-pub struct Assignments(Vec<u8>);
+pub struct Assignments(pub(crate) Vec<u8>);
 
 impl Assignments {
     pub fn new(num_vars: usize) -> Self {

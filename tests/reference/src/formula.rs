@@ -6,8 +6,8 @@ pub const MAX_LITERALS: usize = 8192;
 /// The clauses of a session: all literals in one vector, and where each clause ends in it.
 pub struct Formula {
     pub num_vars: usize,
-    lits: Vec<Lit>,
-    ends: Vec<usize>,
+    pub(crate) lits: Vec<Lit>,
+    pub(crate) ends: Vec<usize>,
 }
 
 impl Formula {
@@ -16,7 +16,7 @@ impl Formula {
     }
 
     /// The number of clauses.
-    pub fn len(&self) -> usize {
+    pub fn num_clauses(&self) -> usize {
         self.ends.len()
     }
 
@@ -50,7 +50,7 @@ impl Formula {
     }
 
     fn check_clause_invariant(&self, start: usize) -> Result<(), Refusal> {
-        let fits = self.len() < MAX_CLAUSES && self.lits.len() <= MAX_LITERALS;
+        let fits = self.num_clauses() < MAX_CLAUSES && self.lits.len() <= MAX_LITERALS;
         if fits && self.lits[start..].iter().all(|lit| lit.index() < self.num_vars) {
             Ok(())
         } else {

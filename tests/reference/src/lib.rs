@@ -1,6 +1,6 @@
-//! A separate chooser to compare the proved one with: JigSAT's `Heap`, `VSIDS` and `VMTF` over vectors, its trail under them and the
-//! call sheet on top. It shares nothing with the Rattle crates. Names and steps are JigSAT's; its licence and origin are in the file
-//! NOTICE of this repository.
+//! A separate chooser to compare the proved one with: JigSAT's `Heap`, `VSIDS` and `VMTF` over vectors, its trail under them, and on top the
+//! call sheet and the lists of calls on lent memory. It shares nothing with the Rattle crates. Names and steps are JigSAT's; its licence and
+//! origin are in the file NOTICE of this repository.
 
 mod assignments;
 mod decision;
@@ -8,8 +8,9 @@ mod formula;
 pub mod generator;
 mod heap;
 mod lit;
+pub mod native;
 mod refusal;
-mod session;
+pub mod session;
 mod sheet;
 mod trail;
 mod util;

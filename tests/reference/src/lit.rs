@@ -13,6 +13,11 @@ impl Lit {
         Lit { code }
     }
 
+    #[inline]
+    pub fn code(self) -> u32 {
+        self.code
+    }
+
     /// The literal's variable.
     #[inline]
     pub fn index(self) -> usize {

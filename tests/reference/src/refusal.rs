@@ -1,4 +1,5 @@
-/// Why a line of a sheet is refused; the number is the answer's status. 5 and 7 speak of lent memory and cannot come from a sheet.
+/// Why a line of a sheet, a list of calls or one of its calls is refused; the number is the answer's status. 5 and 7 speak of lent memory
+/// and cannot come from a sheet.
 #[derive(Clone, Copy, Debug, PartialEq, Eq)]
 #[repr(u8)]
 pub enum Refusal {
@@ -6,7 +7,9 @@ pub enum Refusal {
     BufferTooShort = 2,
     Form = 3,
     TooManyVariables = 4,
+    Length = 5,
     ClauseList = 6,
+    State = 7,
     Variable = 8,
     Polarity = 9,
     Reason = 10,

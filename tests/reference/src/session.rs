@@ -1,4 +1,9 @@
-use crate::{decision::Decisions, formula::Formula, lit::Lit, refusal::Refusal, trail::Trail, INVALID};
+//! A session over vectors: clauses, a trail and a chooser, `VSIDS` or `VMTF`, and the eleven calls on them. A call checks its arguments (8 to 14) and
+//! nothing else, since what it works on is its own.
+
+use crate::INVALID;
+
+pub use crate::{decision::Decisions, formula::Formula, lit::Lit, refusal::Refusal, trail::Trail, vmtf::VMTF, vsids::VSIDS};
 
 /// A call on a session, with arguments still unchecked.
 #[derive(Clone, Copy, Debug)]
@@ -21,12 +26,13 @@ pub type Reply = Option<usize>;
 
 /// Clauses, trail and chooser.
 pub struct Session<D> {
-    formula: Formula,
-    trail: Trail,
-    decisions: D,
+    pub(crate) formula: Formula,
+    pub(crate) trail: Trail,
+    pub(crate) decisions: D,
 }
 
 impl<D: Decisions> Session<D> {
+    /// A fresh session: nothing assigned, no level opened.
     pub fn new(formula: Formula) -> Self {
         Session { trail: Trail::new(formula.num_vars), decisions: D::new(&formula), formula }
     }
@@ -35,6 +41,12 @@ impl<D: Decisions> Session<D> {
         &self.trail
     }
 
+    /// Adds a clause behind the others; a reason may name it from now on.
+    pub fn add_clause(&mut self, lits: impl IntoIterator<Item = Lit>) -> Result<(), Refusal> {
+        self.formula.add_clause(lits.into_iter().map(Ok))
+    }
+
+    /// Does a call, or says why not; then nothing is changed.
     pub fn call(&mut self, call: Call<'_>) -> Result<Reply, Refusal> {
         match call {
             Call::Bump(var) => self.on_variable(var, |s| s.decisions.bump_variable(var)),
@@ -87,7 +99,7 @@ impl<D: Decisions> Session<D> {
 
     fn enqueue(&mut self, lit: Lit, reason: Option<usize>) -> Result<Reply, Refusal> {
         self.check_variable(lit.index())?;
-        if reason.is_some_and(|cref| cref >= self.formula.len()) {
+        if reason.is_some_and(|cref| cref >= self.formula.num_clauses()) {
             return Err(Refusal::Reason);
         }
         if self.trail.assignments.is_assigned(lit.index()) {

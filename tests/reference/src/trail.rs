@@ -7,11 +7,13 @@ const UNIT: usize = INVALID;
 /// The assigned literals in the order they came, with the level and the reason of each variable.
 pub struct Trail {
     pub assignments: Assignments,
-    lit_to_level: Vec<u32>,
+    pub(crate) lit_to_level: Vec<u32>,
     pub lit_to_reason: Vec<usize>,
-    trail: Vec<Lit>,
+    pub(crate) trail: Vec<Lit>,
     /// The trail's length before each decision.
-    decisions: Vec<usize>,
+    pub(crate) decisions: Vec<usize>,
+    /// How far the trail has been propagated; going back sets it, and nothing here reads it.
+    pub(crate) curr_i: usize,
 }
 
 impl Trail {
@@ -22,6 +24,7 @@ impl Trail {
             lit_to_reason: vec![UNSET_REASON; num_vars],
             trail: Vec::with_capacity(num_vars),
             decisions: Vec::with_capacity(num_vars),
+            curr_i: 0,
         }
     }
 
@@ -58,6 +61,7 @@ impl Trail {
             chooser.insert(idx);
         }
         self.decisions.truncate(level);
+        self.curr_i = self.trail.len();
         how_many
     }
 

@@ -11,9 +11,9 @@ use std::ops::{Index, IndexMut};
 /// A variable's place in the list: its neighbours, and the stamp of its last move.
 #[derive(Clone, Copy, Debug, PartialEq, Eq)]
 pub struct Node {
-    next: usize,
-    prev: usize,
-    ts: u64,
+    pub(crate) next: usize,
+    pub(crate) prev: usize,
+    pub(crate) ts: u64,
 }
 
 impl Default for Node {
@@ -25,12 +25,12 @@ impl Default for Node {
 /// The chooser by move to front: a doubly linked list of all variables, searched from `search` on.
 #[allow(clippy::upper_case_acronyms)]
 pub struct VMTF {
-    linked_list: Vec<Node>,
-    timestamp: u64,
-    start: usize,
-    search: usize,
+    pub(crate) linked_list: Vec<Node>,
+    pub(crate) timestamp: u64,
+    pub(crate) start: usize,
+    pub(crate) search: usize,
     /// Stamp and variable of each of a group, kept from group to group for its memory alone.
-    by_stamp: Vec<(u64, usize)>,
+    pub(crate) by_stamp: Vec<(u64, usize)>,
 }
 
 impl VMTF {

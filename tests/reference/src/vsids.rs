@@ -10,10 +10,10 @@ const MAX_INC: f64 = 1e200;
 /// The chooser by activity: a bump adds a step that grows as it is decayed.
 #[allow(clippy::upper_case_acronyms)]
 pub struct VSIDS {
-    order_heap: Heap,
-    var_inc: f64,
-    var_decay: f64,
-    decision: Vec<bool>,
+    pub(crate) order_heap: Heap,
+    pub(crate) var_inc: f64,
+    pub(crate) var_decay: f64,
+    pub(crate) decision: Vec<bool>,
 }
 
 impl VSIDS {

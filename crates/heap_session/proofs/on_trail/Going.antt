@@ -2,7 +2,7 @@
 -- with them unassigned.
 use Prim.Native.Nat.{ℕ, _+_, _-_, _≤_, _<_}
 use mathlib.Core.Path.{_≡_, refl, sym, ap, _∙_}
-use mathlib.Core.Bool.{Bool, false, not, _&&_}
+use mathlib.Core.Bool.{not, _&&_}
 use mathlib.Core.List.{List, [], _∷_}
 use native.Mathlib.Omega.{arith}
 use borrow.Author.Tests.{lt-ltb, le-ltb}
@@ -17,7 +17,7 @@ use Rattle.trail.specs.Undone.{between, between-none, between-more}
 use Rattle.activity.specs.declared.Step.{Step}
 use Rattle.heap.specs.Heap.{inHeap}
 use Rattle.vsids.specs.declared.VsidsState.{VsidsState}
-use Rattle.vsids.specs.Vsids.{Vsids, vsidsOf, insert}
+use Rattle.vsids.specs.Vsids.{Vsids, vsidsOf, isOn, insert}
 use Rattle.vsids.specs.Kept.{undo-ok}
 use Rattle.choosers.specs.Heap.{heapOps}
 use Rattle.book.specs.Session.{Session, offerAll, wentBack}
@@ -48,9 +48,9 @@ offering {n} {o} {top} {i} {trail} {goal} {h} s l b v h′ a e =
 -- inserting leaves the step, so it need not be read again
 insert-step : (v : ℕ) (h : Vsids) → insert v h .step ≡ h .step
 unfolding insert
-insert-step v h = cond-elim (λ (x : Vsids). x .step ≡ h .step) (not (inHeap (h .indices) v) && getD (h .decision) v false) (λ e. refl) (λ e. refl)
+insert-step v h = cond-elim (λ (x : Vsids). x .step ≡ h .step) (not (inHeap (h .indices) v) && isOn (h .decision) v) (λ e. refl) (λ e. refl)
 
-module _ (v : ℕ) (h : Vsids) {a : List Float} {places positions : List ℕ} {d : List Bool} {r : VsidsState} where
+module _ (v : ℕ) (h : Vsids) {a : List Float} {places positions d : List ℕ} {r : VsidsState} where
   pub same-step : vsidsOf a places positions d r ≡ insert v h → vsidsOf a places positions d (record { len = r .len; step = h .step }) ≡ insert v h
   same-step e = ap (λ (t : Step). vsidsOf a places positions d (record { len = r .len; step = t })) (sym (ap (λ (x : Vsids). x .step) e ∙ insert-step v h)) ∙ e
 

@@ -1,0 +1,99 @@
+//! A SAT solver that has its decisions from the proved chooser, or for comparison from the reference. It reads a formula in DIMACS CNF and
+//! answers as in SAT competitions. It is an example of how to link a chooser: sat/choosers.rs is all that it takes, and sat/cdcl.rs shows
+//! when to call it.
+
+mod dimacs;
+mod sat;
+
+use sat::{solve, Formula, Outcome, ProvedHeap, ReferenceHeap, Stats};
+use sigvort::MAX_VARIABLES;
+use std::{
+    env,
+    ffi::{OsStr, OsString},
+    fs::File,
+    io::{self, Read, Write},
+    process::ExitCode,
+    time::Instant,
+};
+
+const WRONG: u8 = 1;
+const MISUSED: u8 = 2;
+const SATISFIABLE: u8 = 10;
+const UNSATISFIABLE: u8 = 20;
+
+type Solve = fn(&Formula) -> (Outcome, Stats);
+
+/// The choosers by name. The first is taken where none is named.
+const CHOOSERS: [(&str, Solve); 2] = [
+    ("vsids", |formula| solve(formula, ProvedHeap::new(formula.num_vars).expect("the number of variables is within the limit"))),
+    ("reference", |formula| solve(formula, ReferenceHeap::new(formula.num_vars))),
+];
+
+struct Arguments {
+    solve: Solve,
+    stats: bool,
+    file: OsString,
+}
+
+fn arguments() -> Option<Arguments> {
+    let (mut solve, mut stats, mut file) = (CHOOSERS[0].1, false, None);
+    let mut arguments = env::args_os().skip(1);
+    while let Some(argument) = arguments.next() {
+        match argument.to_str() {
+            Some("--chooser") => {
+                let name = arguments.next()?;
+                solve = CHOOSERS.iter().find(|chooser| name == chooser.0)?.1;
+            }
+            Some("--stats") => stats = true,
+            Some(option) if option.starts_with('-') && option != "-" => return None,
+            _ if file.is_some() => return None,
+            _ => file = Some(argument),
+        }
+    }
+    Some(Arguments { solve, stats, file: file? })
+}
+
+/// Reads a formula that the choosers can take.
+fn read(file: &OsStr) -> Result<Formula, String> {
+    let mut bytes = Vec::new();
+    let read =
+        if file == "-" { io::stdin().read_to_end(&mut bytes) } else { File::open(file).and_then(|mut file| file.read_to_end(&mut bytes)) };
+    read.map_err(|error| error.to_string())?;
+    // comments may be in any encoding
+    let formula = dimacs::parse(&String::from_utf8_lossy(&bytes))?;
+    if formula.num_vars > MAX_VARIABLES {
+        return Err(format!("the formula has {} variables, and the chooser takes {MAX_VARIABLES} at most", formula.num_vars));
+    }
+    Ok(formula)
+}
+
+fn write(outcome: &Outcome) -> io::Result<()> {
+    let mut out = io::BufWriter::new(io::stdout());
+    dimacs::write(&mut out, outcome)?;
+    out.flush()
+}
+
+fn run(arguments: &Arguments) -> Result<u8, String> {
+    let formula = read(&arguments.file).map_err(|what| format!("{}: {what}", arguments.file.display()))?;
+    let start = Instant::now();
+    let (outcome, Stats { decisions, conflicts, propagations, lists }) = (arguments.solve)(&formula);
+    if arguments.stats {
+        let seconds = start.elapsed().as_secs_f64();
+        eprintln!("decisions {decisions}\nconflicts {conflicts}\npropagations {propagations}\nlists {lists}\nseconds {seconds:.6}");
+    }
+    write(&outcome).map_err(|error| format!("the answer can't be written: {error}"))?;
+    Ok(if outcome == Outcome::Unsatisfiable { UNSATISFIABLE } else { SATISFIABLE })
+}
+
+fn main() -> ExitCode {
+    let Some(arguments) = arguments() else {
+        let names = CHOOSERS.map(|(name, _)| name).join("|");
+        eprintln!("usage: solver [--chooser {names}] [--stats] FILE, where - is standard input");
+        return MISUSED.into();
+    };
+    let status = run(&arguments).unwrap_or_else(|what| {
+        eprintln!("solver: {what}");
+        WRONG
+    });
+    status.into()
+}
