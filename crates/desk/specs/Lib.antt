@@ -3,3 +3,4 @@ pub mod Ran
 pub mod Memory
 pub mod Opening
 pub mod Positions
+pub mod Native

@@ -1,5 +1,5 @@
 //! The choosers that a solver may have, behind one trait. A further one takes an implementation here and a line in the table of names in
-//! main.rs.
+//! solver.rs.
 
 use reference::session::{self as plain, Call, VSIDS};
 use sigvort::{Batch, Lit, Refusal, Session};

@@ -1,8 +1,10 @@
 //! A SAT solver that has its decisions from the proved chooser, or for comparison from the reference. It reads a formula in DIMACS CNF and
-//! answers as in SAT competitions. It is an example of how to link a chooser: sat/choosers.rs is all that it takes, and sat/cdcl.rs shows
-//! when to call it.
+//! answers as in SAT competitions. It is an example of how to link a chooser: solver/sat/choosers.rs is all that it takes, and
+//! solver/sat/cdcl.rs shows when to call it.
 
+#[path = "solver/dimacs.rs"]
 mod dimacs;
+#[path = "solver/sat/mod.rs"]
 mod sat;
 
 use sat::{solve, Formula, Outcome, ProvedHeap, ReferenceHeap, Stats};
