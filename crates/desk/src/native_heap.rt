@@ -148,6 +148,9 @@ pub extern "C" fn sigvort_heap_calls(
         calls,
         answers,
     );
+    if a.status != 0 {
+        return a.status;
+    }
     let s = a.state;
     let t = s.trail;
     let h = s.vsids;
@@ -158,5 +161,5 @@ pub extern "C" fn sigvort_heap_calls(
     *members = h.len;
     *inc = step.inc;
     *decay = step.decay;
-    a.status
+    0
 }

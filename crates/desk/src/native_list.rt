@@ -140,6 +140,9 @@ pub extern "C" fn sigvort_list_calls(
         calls,
         answers,
     );
+    if a.status != 0 {
+        return a.status;
+    }
     let s = a.state;
     let t = s.trail;
     let l = s.vmtf;
@@ -149,5 +152,5 @@ pub extern "C" fn sigvort_list_calls(
     *start = l.start;
     *search = l.search;
     *timestamp = l.timestamp;
-    a.status
+    0
 }

@@ -1,30 +1,64 @@
 -- Lists of calls in heap mode: what they come to, that they are the same as each call alone, and term 3 of any number of them.
 use Prim.Native.Nat.{ℕ, _+_, _<_}
 use mathlib.Core.Path.{_≡_}
-use mathlib.Core.List.{List, [], _∷_}
-use mathlib.Core.Option.{none}
+use mathlib.Core.Logic.{_≢_}
+use mathlib.Core.Bool.{true}
+use mathlib.Core.Option.{none, some}
+use mathlib.Core.List.{List, [], _∷_, map}
 use lib.ListN.{length}
 use Rattle.choosers.specs.Heap.{heapOps}
-use Rattle.book.specs.Session.{Result, done, status, Session}
+use Rattle.book.specs.Session.{Result, done, status, reply, leaves, Session}
+use Rattle.book.specs.Claim.{startingWith, Claim}
 use Rattle.book.specs.Read.{called-kept}
+use Rattle.session.specs.Asked.{Asked, asked, Lending}
+use Rattle.session.specs.Entry.{replyNumber}
+use Rattle.session.specs.Entered.{RightScratch}
+use Rattle.session.specs.Runs.{runLists}
 use Rattle.words.specs.Words as words
-use Rattle.words.specs.Words.{wordsFit}
+use Rattle.words.specs.Words.{wordCall, wordsFit, Handed, handed}
 use Rattle.words.specs.Going.{callAt, Told, Part, part-more}
 use Rattle.words.specs.Alone as either
-use Rattle.heap_entry.specs.Entry.{heapMode}
+use Rattle.heap_entry.specs.Entry.{heapMode, entered, made}
 use Rattle.heap_entry.specs.Kept.{IsGood, kept}
 use Rattle.heap_entry.specs.Checked.{Doubles, heap-sound}
+use Rattle.heap_entry.specs.Term3.{heapOver, made-lists-term3}
 
 module _ (n m : ℕ) (lits : List ℕ) (literals : ℕ) (ends vars : List ℕ) where
   -- the calls in words, on the session as lent, with answers of so many words
   abbrev pub enteredWords : List ℕ → ℕ → Session n m (heapOps n lits ends) → Result (Session n m (heapOps n lits ends) × List ℕ)
   enteredWords = words.enteredWords n m (heapMode n m lits ends) lits literals ends vars
 
+  -- each call in a list of its own
+  abbrev pub eachAlone : List ℕ → Session n m (heapOps n lits ends) → Session n m (heapOps n lits ends) × List ℕ
+  eachAlone = words.eachAlone n m (heapMode n m lits ends) lits literals ends vars
+
   -- an accepted list comes to what its calls come to, each in a list of its own and checked every time
-  pub alone : (ws : List ℕ) (answers : ℕ) (s : Session n m (heapOps n lits ends)) → Doubles (s .chooser) → status (enteredWords ws answers s) ≡ 0
-      → enteredWords ws answers s ≡ done none (words.eachAlone n m (heapMode n m lits ends) lits literals ends vars ws s)
+  pub alone : (ws : List ℕ) (answers : ℕ) (s : Session n m (heapOps n lits ends)) → Doubles (s .chooser) → status (enteredWords ws answers s) ≡ 0 → enteredWords ws answers s ≡ done none (eachAlone ws s)
   unfolding heap-sound
-  alone = either.alone n m (heapMode n m lits ends) lits literals ends vars (heap-sound n m lits ends)
+  alone ws answers s t = either.alone n m (heapMode n m lits ends) lits literals ends vars (heap-sound n m lits ends) ws answers s t
+
+  -- of a refused one that fits, each call alone changes nothing and tells nothing
+  pub refused-alone : (ws : List ℕ) (answers : ℕ) (s : Session n m (heapOps n lits ends)) → wordsFit (length ws) answers ≡ true → status (enteredWords ws answers s) ≢ 0 → eachAlone ws s ≡ (s, [])
+  refused-alone = either.refused-alone n m (heapMode n m lits ends) lits literals ends vars
+
+  -- a call alone in a list is the call on its entry point
+  pub one-entered : (l a b : ℕ) (q : Asked) (s : Session n m (heapOps n lits ends)) → Doubles (s .chooser) → wordCall vars l a b ≡ some (asked q) → RightScratch q → status (enteredWords (l ∷ (a ∷ (b ∷ []))) 2 s) ≡ 0
+      → let x = entered n m lits literals ends q s in
+      enteredWords (l ∷ (a ∷ (b ∷ []))) 2 s ≡ done none (leaves s x, status x ∷ (replyNumber (reply x) ∷ []))
+  unfolding heap-sound
+  one-entered l a b q s t = either.one-entered n m (heapMode n m lits ends) lits literals ends vars (heap-sound n m lits ends) l a b q s t
+
+  -- an accepted list leaves a good session
+  pub list-good : (ws : List ℕ) (answers : ℕ) (s : Session n m (heapOps n lits ends)) → Doubles (s .chooser) → status (enteredWords ws answers s) ≡ 0 → (out : List ℕ)
+      → IsGood n m lits ends ((leaves (s, out) (enteredWords ws answers s)) .0)
+  unfolding heap-sound
+  list-good ws answers s t = either.list-good n m (heapMode n m lits ends) lits literals ends vars (heap-sound n m lits ends) ws answers s t
+
+-- Term 3: over any number of lists in a row, refused ones included and whatever each is lent with, from the session that an accepted creation made
+pub made-words-term3 : (g : Lending) (s : Session (g .n) (g .m) (heapOps (g .n) (g .lits) (g .ends))) → status (made (g .n) (g .m) (g .lits) (g .literals) (g .ends) s) ≡ 0 → (lists : List Handed)
+    → let r = startingWith (g .n) (g .m) (heapOps (g .n) (g .lits) (g .ends)) (leaves s (made (g .n) (g .m) (g .lits) (g .literals) (g .ends) s)) in
+    Claim (g .n) (g .m) (heapOps (g .n) (g .lits) (g .ends)) (runLists heapOver (λ g h c. c) g r (map handed lists))
+made-words-term3 g s e lists = made-lists-term3 g s e (map handed lists)
 
 -- one call more of a list on a good session
 pub heap-more : (n m : ℕ) (lits ends : List ℕ) {vars ws : List ℕ} {k i : ℕ} {s u v : Session n m (heapOps n lits ends)} {out out′ : List ℕ}

@@ -1,30 +1,64 @@
 -- Lists of calls in list mode: what they come to, that they are the same as each call alone, and term 3 of any number of them.
 use Prim.Native.Nat.{ℕ, _+_, _<_}
 use mathlib.Core.Path.{_≡_}
-use mathlib.Core.List.{List, [], _∷_}
-use mathlib.Core.Option.{none}
+use mathlib.Core.Logic.{_≢_}
+use mathlib.Core.Bool.{true}
+use mathlib.Core.Option.{none, some}
+use mathlib.Core.List.{List, [], _∷_, map}
 use lib.ListN.{length}
 use Rattle.choosers.specs.List.{listOps}
-use Rattle.book.specs.Session.{Result, done, status, Session}
+use Rattle.book.specs.Session.{Result, done, status, reply, leaves, Session}
+use Rattle.book.specs.Claim.{startingWith, Claim}
 use Rattle.book.specs.Read.{called-kept}
+use Rattle.session.specs.Asked.{Asked, asked, Lending}
+use Rattle.session.specs.Entry.{replyNumber}
+use Rattle.session.specs.Entered.{RightScratch}
+use Rattle.session.specs.Runs.{runLists}
 use Rattle.words.specs.Words as words
-use Rattle.words.specs.Words.{wordsFit}
+use Rattle.words.specs.Words.{wordCall, wordsFit, Handed, handed}
 use Rattle.words.specs.Going.{callAt, Told, Part, part-more}
 use Rattle.words.specs.Alone as either
-use Rattle.list_entry.specs.Entry.{listMode}
+use Rattle.list_entry.specs.Entry.{listMode, entered, madeAlone}
 use Rattle.list_session.specs.Kept.{IsGood}
 use Rattle.list_entry.specs.Checked.{kept, list-sound}
+use Rattle.list_entry.specs.Term3.{listOver, made-lists-term3}
 
 module _ (n m : ℕ) (lits : List ℕ) (literals : ℕ) (ends vars : List ℕ) where
   -- the calls in words, on the session as lent, with answers of so many words
   abbrev pub enteredWords : List ℕ → ℕ → Session n m (listOps n lits) → Result (Session n m (listOps n lits) × List ℕ)
   enteredWords = words.enteredWords n m (listMode n m lits) lits literals ends vars
 
+  -- each call in a list of its own
+  abbrev pub eachAlone : List ℕ → Session n m (listOps n lits) → Session n m (listOps n lits) × List ℕ
+  eachAlone = words.eachAlone n m (listMode n m lits) lits literals ends vars
+
   -- an accepted list comes to what its calls come to, each in a list of its own and checked every time
-  pub alone : (ws : List ℕ) (answers : ℕ) (s : Session n m (listOps n lits)) → status (enteredWords ws answers s) ≡ 0
-      → enteredWords ws answers s ≡ done none (words.eachAlone n m (listMode n m lits) lits literals ends vars ws s)
+  pub alone : (ws : List ℕ) (answers : ℕ) (s : Session n m (listOps n lits)) → status (enteredWords ws answers s) ≡ 0 → enteredWords ws answers s ≡ done none (eachAlone ws s)
   unfolding list-sound
   alone ws answers s = either.alone n m (listMode n m lits) lits literals ends vars (list-sound n m lits ends) ws answers s tt
+
+  -- of a refused one that fits, each call alone changes nothing and tells nothing
+  pub refused-alone : (ws : List ℕ) (answers : ℕ) (s : Session n m (listOps n lits)) → wordsFit (length ws) answers ≡ true → status (enteredWords ws answers s) ≢ 0 → eachAlone ws s ≡ (s, [])
+  refused-alone = either.refused-alone n m (listMode n m lits) lits literals ends vars
+
+  -- a call alone in a list is the call on its entry point
+  pub one-entered : (l a b : ℕ) (q : Asked) (s : Session n m (listOps n lits)) → wordCall vars l a b ≡ some (asked q) → RightScratch q → status (enteredWords (l ∷ (a ∷ (b ∷ []))) 2 s) ≡ 0
+      → let x = entered n m lits literals ends q s in
+      enteredWords (l ∷ (a ∷ (b ∷ []))) 2 s ≡ done none (leaves s x, status x ∷ (replyNumber (reply x) ∷ []))
+  unfolding list-sound
+  one-entered l a b q s = either.one-entered n m (listMode n m lits) lits literals ends vars (list-sound n m lits ends) l a b q s tt
+
+  -- an accepted list leaves a good session
+  pub list-good : (ws : List ℕ) (answers : ℕ) (s : Session n m (listOps n lits)) → status (enteredWords ws answers s) ≡ 0 → (out : List ℕ)
+      → IsGood n m lits ((leaves (s, out) (enteredWords ws answers s)) .0)
+  unfolding list-sound
+  list-good ws answers s = either.list-good n m (listMode n m lits) lits literals ends vars (list-sound n m lits ends) ws answers s tt
+
+-- Term 3: over any number of lists in a row, refused ones included and whatever each is lent with, from the session that an accepted creation made
+pub made-words-term3 : (g : Lending) (s : Session (g .n) (g .m) (listOps (g .n) (g .lits))) → status (madeAlone (g .n) (g .m) (g .lits) (g .literals) (g .ends) s) ≡ 0 → (lists : List Handed)
+    → let r = startingWith (g .n) (g .m) (listOps (g .n) (g .lits)) (leaves s (madeAlone (g .n) (g .m) (g .lits) (g .literals) (g .ends) s)) in
+    Claim (g .n) (g .m) (listOps (g .n) (g .lits)) (runLists listOver (λ g h c. c) g r (map handed lists))
+made-words-term3 g s e lists = made-lists-term3 g s e (map handed lists)
 
 -- one call more of a list on a good session
 pub list-more : (n m : ℕ) (lits : List ℕ) {vars ws : List ℕ} {k i : ℕ} {s u v : Session n m (listOps n lits)} {out out′ : List ℕ}

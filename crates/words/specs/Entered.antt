@@ -44,11 +44,11 @@ module _ (n m : ℕ) (M : Mode) (lits : List ℕ) (literals : ℕ) (list-ends va
   unfolding enteredList
   list-refused k e z =
       let r = startingWith n m (M .ops) s in
-      mapped-answered (told n m M lits literals list-ends vars words) {s = r} (refused n _ _ _ (done none (run n m (M .ops) r (callsOf (callsIn vars words)))) r k e z) z
+      mapped-answered (told vars words) {s = r} (refused n _ _ _ (done none (run n m (M .ops) r (callsOf (callsIn vars words)))) r k e z) z
 
   pub list-ran : {u : Session n m (M .ops)} {out′ : List ℕ} → 0 ≡ refusal → (let cs = callsIn vars words in (u ≡ ends n m (M .ops) s cs) × (out′ ≡ tells n m (M .ops) s cs))
       → Answered (enteredWords n m M lits literals list-ends vars words (length out) s) (s, out) 0 NONE (u, out′)
   unfolding enteredList
   list-ran e (p, q) =
       rw (accepted n _ _ _ (done none (run n m (M .ops) (startingWith n m (M .ops) s) (callsOf (callsIn vars words)))) e)
-      (record { status = refl; reply = refl; session = rw (p, q) (sym (told-is n m M lits literals list-ends vars words s)) })
+      (record { status = refl; reply = refl; session = rw (p, q) (sym (told-is n m (M .ops) vars words s)) })

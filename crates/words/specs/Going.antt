@@ -12,7 +12,6 @@ use Rattle.book.specs.Session.{status, reply, leaves, Session}
 use Rattle.book.specs.Claim.{Run, startingWith, step, run}
 use Rattle.book.specs.Read.{callsOf, called, logLines, logs}
 use Rattle.session.specs.Entry.{replyNumber, Answered}
-use Rattle.session.specs.Mode.{Mode}
 use Rattle.words.specs.Words.{wordCall, callsIn, answersOf, told}
 
 -- the i-th call, and k calls from the i-th on
@@ -93,12 +92,12 @@ module _ (n m : ℕ) (O : Operations) where
   }
 
 -- what the run of the calls leaves and tells
-pub told-is : (n m : ℕ) (M : Mode) (lits : List ℕ) (literals : ℕ) (list-ends vars words : List ℕ) (s : Session n m (M .ops)) → let cs = callsIn vars words in
-    told n m M lits literals list-ends vars words (run n m (M .ops) (startingWith n m (M .ops) s) (callsOf cs)) ≡ (ends n m (M .ops) s cs, tells n m (M .ops) s cs)
-told-is n m M lits literals list-ends vars words s =
+pub told-is : (n m : ℕ) (O : Operations) (vars words : List ℕ) (s : Session n m O) → let cs = callsIn vars words in
+    told vars words (run n m O (startingWith n m O s) (callsOf cs)) ≡ (ends n m O s cs, tells n m O s cs)
+told-is n m O vars words s =
     let cs = callsIn vars words in
-    let r = startingWith n m (M .ops) s in
-    rw (run-ends n m (M .ops) cs r, logs n m (M .ops) cs r, log-tells n m (M .ops) cs r)
+    let r = startingWith n m O s in
+    rw (run-ends n m O cs r, logs n m O cs r, log-tells n m O cs r)
 
 module _ (n m : ℕ) (O : Operations) where
   -- Of k calls i are done and answered, from s on up to u.

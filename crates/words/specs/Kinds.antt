@@ -11,7 +11,7 @@ use Rattle.laws.specs.Tests.{cond-elim, and-false}
 use Rattle.forms.specs.Letters.{bumpLetter, decayLetter, setDecayLetter, insertLetter, switchOffLetter, decideLetter, enqueueLetter, learnUnitLetter, goBackLetter, bumpReasonLetter, groupLetter, clauseLetter, firstLetter}
 use Rattle.forms.specs.Forms.{Kind, kindOf, bumps, decays, setsDecay, inserts, switchesOff, decides, enqueues, learnsUnit, goesBack, bumpsReason, movesGroup, isClause, isFirst, isOther}
 use Rattle.forms.specs.Read.{numbered}
-use Rattle.words.specs.Words.{wordsCall}
+use Rattle.words.specs.Words.{kindCall}
 
 -- P of each kind whose letter b may be, so P of b's
 pub record Kinds (P : Kind → Type 0) (b : ℕ) : Type 0 where
@@ -53,10 +53,10 @@ module _ (P : Kind → Type 0) (b : ℕ) where
 
 -- a letter that takes two words is another: the second word is to be 0
 module _ (vars : List ℕ) (letter a b : ℕ) (no-enqueue : letter ≡ enqueueLetter → ⊥) (no-set-decay : letter ≡ setDecayLetter → ⊥) (no-group : letter ≡ groupLetter → ⊥) where
-  pub second-taken : (b ≡ 0 → ⊥) → wordsCall vars (kindOf letter) a b ≡ none
+  pub second-taken : (b ≡ 0 → ⊥) → kindCall vars (kindOf letter) a b ≡ none
   second-taken z =
       let f : eqb b 0 ≡ false = ne-eqb b 0 z in
-      by-kind (λ (k : Kind). wordsCall vars k a b ≡ none) letter (record {
+      by-kind (λ (k : Kind). kindCall vars k a b ≡ none) letter (record {
         bump = λ e. rw f;
         decay = λ e. rw (f, and-false);
         set-decay = λ e. absurd (no-set-decay e);
@@ -73,10 +73,10 @@ module _ (vars : List ℕ) (letter a b : ℕ) (no-enqueue : letter ≡ enqueueLe
         other = refl;
       })
 
-  pub one-taken : b ≡ 0 → (letter ≡ decayLetter → ⊥) → wordsCall vars (kindOf letter) a b ≡ numbered (kindOf letter) a
+  pub one-taken : b ≡ 0 → (letter ≡ decayLetter → ⊥) → kindCall vars (kindOf letter) a b ≡ numbered (kindOf letter) a
   one-taken z no-decay =
       let t : eqb b 0 ≡ true = eq-eqb b 0 z in
-      by-kind (λ (k : Kind). wordsCall vars k a b ≡ numbered k a) letter (record {
+      by-kind (λ (k : Kind). kindCall vars k a b ≡ numbered k a) letter (record {
         bump = λ e. rw t;
         decay = λ e. absurd (no-decay e);
         set-decay = λ e. absurd (no-set-decay e);
@@ -94,8 +94,8 @@ module _ (vars : List ℕ) (letter a b : ℕ) (no-enqueue : letter ≡ enqueueLe
       })
 
 -- no letter is above the bytes
-pub no-letter : (vars : List ℕ) (letter a b : ℕ) → 255 < letter → wordsCall vars (kindOf letter) a b ≡ none
-no-letter vars letter a b h = by-kind (λ (k : Kind). wordsCall vars k a b ≡ none) letter (record {
+pub no-letter : (vars : List ℕ) (letter a b : ℕ) → 255 < letter → kindCall vars (kindOf letter) a b ≡ none
+no-letter vars letter a b h = by-kind (λ (k : Kind). kindCall vars k a b ≡ none) letter (record {
   bump = λ e. absurd (omega (arith, h, e));
   decay = λ e. absurd (omega (arith, h, e));
   set-decay = λ e. absurd (omega (arith, h, e));

@@ -17,12 +17,13 @@ use Rattle.words.specs.declared.Said as code
 use Rattle.words.specs.declared.Said.the-variants as said
 use Rattle.words.specs.Words.{wordCall}
 
--- the call that was read; of a group, that its variables stand in vars
+-- the call that was read
 abbrev pub saidCall : List ℕ → ℕ → ℕ → code.Said → Option Call
 saidCall vars a b said.Bad = none
 saidCall vars a b (said.Is c) = some (callOf c [])
 saidCall vars a b said.Group = some (group (take b (drop a vars)))
 
+-- of a group: it is not too long, and its variables stand in vars
 abbrev pub fitsIn : List ℕ → ℕ → ℕ → code.Said → Type 0
 fitsIn vars a b said.Bad = Unit {0}
 fitsIn vars a b (said.Is c) = Unit {0}

@@ -15,7 +15,7 @@ use Rattle.book.specs.Calls.{Call, bump, decay, setDecay, insert, switchOff, de
 use Rattle.forms.specs.Letters.{bumpLetter, decayLetter, setDecayLetter, insertLetter, switchOffLetter, decideLetter, enqueueLetter, learnUnitLetter, goBackLetter, bumpReasonLetter, groupLetter}
 use Rattle.forms.specs.Forms.{Kind, kindOf}
 use Rattle.forms.specs.Words.{never, same-some, cond-some}
-use Rattle.words.specs.Words.{highHalf, wordsCall, wordCall}
+use Rattle.words.specs.Words.{highHalf, kindCall, wordCall}
 use Rattle.words.specs.Kinds.{by-kind}
 
 -- 'Calls as numbers, three 32-bit words each: the sheet's letter, and two arguments'; what a call does not take is 0
@@ -38,7 +38,7 @@ module _ (vars : List ℕ) where
   one-said letter a b c e s q = let z = cond-some (eqb b 0) _ q in rw (e, eqb-true b 0 (z .0)) (same-some (Say vars _ a 0) (z .1) s)
 
   read : (letter a b : ℕ) (c : Call) → wordCall vars letter a b ≡ some c → Say vars letter a b c
-  read letter a b c = by-kind (λ (k : Kind). wordsCall vars k a b ≡ some c → Say vars letter a b c) letter (record {
+  read letter a b c = by-kind (λ (k : Kind). kindCall vars k a b ≡ some c → Say vars letter a b c) letter (record {
     bump = λ e. one-said letter a b c e (words-b a);
     decay = λ e q.
         let z = cond-some (eqb a 0 && eqb b 0) _ q in
