@@ -19,9 +19,14 @@ const SAMPLE: Duration = Duration::from_millis(4);
 
 type Run = fn(&[u8], &mut [u8]) -> u32;
 
+extern "C" {
+    /// The proved chooser's entry for sheets, as `hosts/c/sigvort.h` has it.
+    fn sigvort_run(sheet: *const u8, sheet_len: usize, answers: *mut u8, answers_len: usize) -> u32;
+}
+
 fn proved(sheet: &[u8], answers: &mut [u8]) -> u32 {
     // SAFETY: sheet and buffer are slices of these lengths, and the buffer is no part of the sheet.
-    unsafe { sigvort::ffi::sigvort_run(sheet.as_ptr(), sheet.len(), answers.as_mut_ptr(), answers.len()) }
+    unsafe { sigvort_run(sheet.as_ptr(), sheet.len(), answers.as_mut_ptr(), answers.len()) }
 }
 
 /// The mean time of so many runs.

@@ -5,7 +5,8 @@
    memory. docs/NATIVE.md is the guide, docs/SHEET.md says what the calls do.
 
    Of every function here: nothing is kept between calls and nothing is allocated, so calls on different memory may run at the same time. A pointer
-   is aligned, good for its whole length, and not null, even for a length of 0. What is written overlaps nothing else that is lent. C99, C11 and C++. */
+   is aligned, good for its whole length, and not null, even for a length of 0; only the functions that take a struct allow null for a slice without
+   places. What is written overlaps nothing else that is lent. C99, C11 and C++. */
 #ifndef SIGVORT_H
 #define SIGVORT_H
 
@@ -88,10 +89,12 @@ enum sigvort_refusal {
     SIGVORT_STUCK = 14              /* nothing from search on is unassigned, yet some variable is; list mode only */
 };
 
-/* The code of a literal: twice the variable, plus 1 when it is positive. */
+/* The code of a literal: twice the variable, plus 1 when it is positive. A variable above 2147483647 has none and gets the code of that one, which no
+   session has, so that it is refused. */
 static inline uint32_t sigvort_code(uint32_t variable, int positive)
 {
-    return 2 * variable + (positive ? 1 : 0);
+    const uint32_t last = UINT32_MAX / 2;
+    return 2 * (variable < last ? variable : last) + (positive ? 1u : 0u);
 }
 
 /* ---- Sessions: the entries ----
@@ -110,7 +113,8 @@ static inline uint32_t sigvort_code(uint32_t variable, int positive)
    opened      N words: for each level the trail's length before its decision
    len         how much of trail is in use
    level       how much of opened is in use: the present level
-   curr_i      the place from which a solver propagates; going back sets it to the trail's length
+   curr_i      the place from which a solver propagates, at most len. Going back sets it to the trail's length where it undoes something. No other call
+               changes it: the solver moves it on, and may set it to anything up to len between lists
 
    These are of heap mode:
 
@@ -207,7 +211,8 @@ uint32_t sigvort_list_calls(
 /* ---- The memory of a session ----
 
    Arrays of sigvort_places(n) places each and the small states, named as the entries name them. A caller may set the pointers itself, or have one block
-   laid out by sigvort_heap_place and sigvort_list_place. The clause list may be changed between lists of calls: a solver that learns lends longer ones. */
+   laid out by sigvort_heap_place and sigvort_list_place. The clause list may be changed between lists of calls: a solver that learns lends longer ones,
+   in which the clauses that are reasons keep their numbers. */
 
 /* A session in heap mode. */
 struct sigvort_heap {
@@ -310,16 +315,32 @@ static inline void sigvort_list_place(struct sigvort_list *s, uint32_t n, void *
     s->timestamp = 0;
 }
 
-/* ---- The entries on a struct ---- */
+/* ---- The entries on a struct ----
+
+   A slice without places may be null here, as the data() of an empty std::vector is. The entries get another pointer for it. */
+
+/* What that pointer points to. */
+union sigvort_nothing {
+    uint64_t stamp;
+    double number;
+    uint32_t word;
+    uint8_t byte;
+};
+
+/* A slice as two arguments: pointer, of one of these kinds, and length. */
+#define SIGVORT_SLICE(kind, pointer, places) ((places) > 0 ? (pointer) : &none.kind), (places)
 
 /* Opens a session in the memory of s: sigvort_heap_fresh. */
 static inline uint32_t sigvort_heap_open(struct sigvort_heap *s)
 {
     const size_t places = sigvort_places(s->n);
+    union sigvort_nothing none = {0};
     return sigvort_heap_fresh(
-        s->n, s->literals, s->clauses, s->lits, s->literals, s->ends, s->clauses,
-        s->values, places, s->levels, places, s->reasons, places, s->trail, places, s->opened, places,
-        s->activity, places, s->heap, places, s->indices, places, s->decision, places,
+        s->n, s->literals, s->clauses, SIGVORT_SLICE(word, s->lits, s->literals), SIGVORT_SLICE(word, s->ends, s->clauses),
+        SIGVORT_SLICE(byte, s->values, places), SIGVORT_SLICE(word, s->levels, places), SIGVORT_SLICE(word, s->reasons, places),
+        SIGVORT_SLICE(word, s->trail, places), SIGVORT_SLICE(word, s->opened, places),
+        SIGVORT_SLICE(number, s->activity, places), SIGVORT_SLICE(word, s->heap, places), SIGVORT_SLICE(word, s->indices, places),
+        SIGVORT_SLICE(byte, s->decision, places),
         &s->len, &s->level, &s->curr_i, &s->members, &s->inc, &s->decay);
 }
 
@@ -329,22 +350,27 @@ static inline uint32_t sigvort_heap_do(
     const uint32_t *calls, size_t calls_len, uint32_t *answers, size_t answers_len)
 {
     const size_t places = sigvort_places(s->n);
+    union sigvort_nothing none = {0};
     return sigvort_heap_calls(
-        s->n, s->literals, s->clauses, s->lits, s->literals, s->ends, s->clauses,
-        s->values, places, s->levels, places, s->reasons, places, s->trail, places, s->opened, places,
-        s->activity, places, s->heap, places, s->indices, places, s->decision, places,
+        s->n, s->literals, s->clauses, SIGVORT_SLICE(word, s->lits, s->literals), SIGVORT_SLICE(word, s->ends, s->clauses),
+        SIGVORT_SLICE(byte, s->values, places), SIGVORT_SLICE(word, s->levels, places), SIGVORT_SLICE(word, s->reasons, places),
+        SIGVORT_SLICE(word, s->trail, places), SIGVORT_SLICE(word, s->opened, places),
+        SIGVORT_SLICE(number, s->activity, places), SIGVORT_SLICE(word, s->heap, places), SIGVORT_SLICE(word, s->indices, places),
+        SIGVORT_SLICE(byte, s->decision, places),
         &s->len, &s->level, &s->curr_i, &s->members, &s->inc, &s->decay,
-        vars, vars_len, calls, calls_len, answers, answers_len);
+        SIGVORT_SLICE(word, vars, vars_len), SIGVORT_SLICE(word, calls, calls_len), SIGVORT_SLICE(word, answers, answers_len));
 }
 
 /* Opens a session in the memory of s: sigvort_list_fresh. */
 static inline uint32_t sigvort_list_open(struct sigvort_list *s)
 {
     const size_t places = sigvort_places(s->n);
+    union sigvort_nothing none = {0};
     return sigvort_list_fresh(
-        s->n, s->literals, s->clauses, s->lits, s->literals, s->ends, s->clauses,
-        s->values, places, s->levels, places, s->reasons, places, s->trail, places, s->opened, places,
-        s->next, places, s->prev, places, s->ts, places,
+        s->n, s->literals, s->clauses, SIGVORT_SLICE(word, s->lits, s->literals), SIGVORT_SLICE(word, s->ends, s->clauses),
+        SIGVORT_SLICE(byte, s->values, places), SIGVORT_SLICE(word, s->levels, places), SIGVORT_SLICE(word, s->reasons, places),
+        SIGVORT_SLICE(word, s->trail, places), SIGVORT_SLICE(word, s->opened, places),
+        SIGVORT_SLICE(word, s->next, places), SIGVORT_SLICE(word, s->prev, places), SIGVORT_SLICE(stamp, s->ts, places),
         &s->len, &s->level, &s->curr_i, &s->start, &s->search, &s->timestamp);
 }
 
@@ -354,19 +380,24 @@ static inline uint32_t sigvort_list_do(
     const uint32_t *calls, size_t calls_len, uint32_t *answers, size_t answers_len)
 {
     const size_t places = sigvort_places(s->n);
+    union sigvort_nothing none = {0};
     return sigvort_list_calls(
-        s->n, s->literals, s->clauses, s->lits, s->literals, s->ends, s->clauses,
-        s->values, places, s->levels, places, s->reasons, places, s->trail, places, s->opened, places,
-        s->next, places, s->prev, places, s->ts, places,
+        s->n, s->literals, s->clauses, SIGVORT_SLICE(word, s->lits, s->literals), SIGVORT_SLICE(word, s->ends, s->clauses),
+        SIGVORT_SLICE(byte, s->values, places), SIGVORT_SLICE(word, s->levels, places), SIGVORT_SLICE(word, s->reasons, places),
+        SIGVORT_SLICE(word, s->trail, places), SIGVORT_SLICE(word, s->opened, places),
+        SIGVORT_SLICE(word, s->next, places), SIGVORT_SLICE(word, s->prev, places), SIGVORT_SLICE(stamp, s->ts, places),
         &s->len, &s->level, &s->curr_i, &s->start, &s->search, &s->timestamp,
-        vars, vars_len, calls, calls_len, answers, answers_len);
+        SIGVORT_SLICE(word, vars, vars_len), SIGVORT_SLICE(word, calls, calls_len), SIGVORT_SLICE(word, answers, answers_len));
 }
+
+#undef SIGVORT_SLICE
 
 /* ---- One call at a time ----
 
    A list of one call: all of the memory is checked for it, so a solver hands over lists where it can. Each function returns 0 or the refusal, be it of
    the list or of the call. Those with a pointer for the reply write it in any case, SIGVORT_NONE where there is none.
-   Calls that change nothing in a mode have no function of their own; sigvort_heap_one and sigvort_list_one take them by their letter. */
+   Calls that change nothing in a mode have no function of their own; sigvort_heap_one and sigvort_list_one take them by their letter, and sigvort_heap_do
+   a group that names variables. */
 
 /* Any call but a group that names variables, by its three words. */
 static inline uint32_t sigvort_heap_one(struct sigvort_heap *s, uint32_t letter, uint32_t first, uint32_t second, uint32_t *reply)
@@ -441,7 +472,7 @@ static inline uint32_t sigvort_heap_go_back(struct sigvort_heap *s, uint32_t lev
     return sigvort_heap_one(s, SIGVORT_GO_BACK, level, 0, undone);
 }
 
-/* Bumps each variable of the variable's reason clause except the first. */
+/* Bumps each variable of the variable's reason clause except the first; without a reason none. */
 static inline uint32_t sigvort_heap_bump_reason(struct sigvort_heap *s, uint32_t variable)
 {
     uint32_t reply;
@@ -484,7 +515,7 @@ static inline uint32_t sigvort_list_go_back(struct sigvort_list *s, uint32_t lev
     return sigvort_list_one(s, SIGVORT_GO_BACK, level, 0, undone);
 }
 
-/* Moves the variables to the front of the list, the one furthest back first. */
+/* Moves the variables to the front of the list, where they keep their order among themselves. */
 static inline uint32_t sigvort_list_group(struct sigvort_list *s, const uint32_t *vars, uint32_t count)
 {
     const uint32_t call[SIGVORT_CALL_WORDS] = {SIGVORT_GROUP, 0, count};

@@ -1,5 +1,5 @@
 /* Holds each function of sigvort.h that takes a session's struct to what it says, in both modes: where a block's arrays lie, with no variables and at the
-   limit; each call by itself; refusals of a list and of a call. Compiles as C and as C++. Prints what is wrong and where. */
+   limit; each call by itself; refusals of a list and of a call; null for slices without places. Compiles as C and as C++. Prints what is wrong and where. */
 #include "sigvort.h"
 
 #include <stdio.h>
@@ -109,10 +109,10 @@ static void sizes(void)
 /* Each call in heap mode. */
 static void heap_calls(void)
 {
-    static const uint32_t lits[] = {1, 2, 6}, ends[] = {3};
+    static const uint32_t lits[] = {1, 2, 6}, ends[] = {3}, group[] = {2, 1}, call[] = {SIGVORT_GROUP, 0, 2};
     struct sigvort_heap s;
     void *block;
-    uint32_t reply;
+    uint32_t reply, answer[SIGVORT_ANSWER_WORDS];
     EXPECT(heap(&s, 4, &block), 0);
     s.lits = lits;
     s.ends = ends;
@@ -139,11 +139,21 @@ static void heap_calls(void)
     EXPECT(sigvort_heap_bump_reason(&s, 0), 0);
     EXPECT(s.activity[1] == 2 && s.activity[3] == 3, 1);
     EXPECT(sigvort_heap_enqueue(&s, sigvort_code(0, 0), SIGVORT_NONE), SIGVORT_ASSIGNED);
+    s.curr_i = 1;
+    EXPECT(sigvort_heap_go_back(&s, 1, &reply), 0);
+    EXPECT(reply == 0 && s.curr_i == 1, 1);
     EXPECT(sigvort_heap_go_back(&s, 0, &reply), 0);
-    EXPECT(reply, 2);
+    EXPECT(reply == 2 && s.curr_i == 0, 1);
     EXPECT(sigvort_heap_learn_unit(&s, sigvort_code(1, 0)), 0);
-    EXPECT(s.len == 1 && s.trail[0] == 2, 1);
+    EXPECT(s.len == 1 && s.trail[0] == 2 && s.curr_i == 0, 1);
+    EXPECT(sigvort_heap_bump_reason(&s, 1), 0);
+    EXPECT(s.activity[1] == 2, 1);
+    EXPECT(sigvort_heap_enqueue(&s, sigvort_code(2147483648u, 0), SIGVORT_NONE), SIGVORT_NO_VARIABLE);
+    EXPECT(sigvort_heap_enqueue(&s, sigvort_code(UINT32_MAX, 1), SIGVORT_NONE), SIGVORT_NO_VARIABLE);
     EXPECT(sigvort_heap_one(&s, SIGVORT_GROUP, 0, 0, &reply), 0);
+    EXPECT(sigvort_heap_one(&s, SIGVORT_GROUP, 0, 1, &reply), SIGVORT_BAD_FORM);
+    EXPECT(sigvort_heap_do(&s, group, 2, call, SIGVORT_CALL_WORDS, answer, SIGVORT_ANSWER_WORDS), 0);
+    EXPECT(answer[0] == 0 && answer[1] == SIGVORT_NONE, 1);
     EXPECT(sigvort_heap_one(&s, SIGVORT_DECAY, 0, 1, &reply), SIGVORT_BAD_FORM);
 
     s.literals = 2;
@@ -199,11 +209,31 @@ static void lists(void)
     free(block);
 }
 
+/* No variables, no clauses, no group and no call: every slice is null. */
+static void nulls(void)
+{
+    struct sigvort_heap h;
+    struct sigvort_list l;
+    uint32_t variable;
+    memset(&h, 0, sizeof h);
+    memset(&l, 0, sizeof l);
+    EXPECT(sigvort_heap_open(&h), 0);
+    EXPECT(sigvort_heap_do(&h, NULL, 0, NULL, 0, NULL, 0), 0);
+    EXPECT(sigvort_heap_decide(&h, 1, &variable), 0);
+    EXPECT(variable, SIGVORT_NONE);
+    EXPECT(sigvort_list_open(&l), 0);
+    EXPECT(sigvort_list_do(&l, NULL, 0, NULL, 0, NULL, 0), 0);
+    EXPECT(sigvort_list_group(&l, NULL, 0), 0);
+    EXPECT(sigvort_list_decide(&l, 1, &variable), 0);
+    EXPECT(variable, SIGVORT_NONE);
+}
+
 int main(void)
 {
     sizes();
     heap_calls();
     list_calls();
     lists();
+    nulls();
     return failed;
 }

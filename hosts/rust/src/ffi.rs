@@ -1,4 +1,4 @@
-//! The chooser's entries as they are exported, for callers that lay out their own memory. `hosts/c/sigvort.h` says what each parameter is.
+//! The chooser's entries as they are exported. `hosts/c/sigvort.h` says what each parameter is.
 //!
 //! Of every entry: nothing is kept between calls and nothing is allocated, so calls on different memory may run at the same time.
 

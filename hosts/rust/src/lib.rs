@@ -1,7 +1,7 @@
 //! The proved option chooser of a SAT solver: which open variable to decide next, by activity or by a move-to-front list, with the trail.
 //!
-//! The chooser is written in Rattle and proved against its contracts; this crate links it as a static library and has no `unsafe` in its interface beside
-//! the raw entries in [`ffi`]. `docs/NATIVE.md` is the guide, `docs/SHEET.md` says what each call does, `docs/PROMISES.md` what is proved.
+//! The chooser is written in Rattle and proved against its contracts; this crate links it as a static library and has no `unsafe` in its interface.
+//! `docs/NATIVE.md` is the guide, `docs/SHEET.md` says what each call does, `docs/PROMISES.md` what is proved.
 //!
 //! A [`Session`] holds the variables, the trail and the chooser. A solver propagates on values of its own and tells the session what it found, in lists
 //! of calls, a [`Batch`] each: before a decision the literals enqueued since the last list, then the decision; at a conflict the bumps, a decay, and going
@@ -42,7 +42,7 @@
 mod batch;
 mod call;
 mod clauses;
-pub mod ffi;
+mod ffi;
 mod lit;
 mod memory;
 mod refusal;

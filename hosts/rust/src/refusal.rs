@@ -2,7 +2,7 @@ use std::{error::Error, fmt};
 
 /// Why a call, a list of calls or a sheet was refused. What is refused changes nothing.
 ///
-/// Checked are first 4 to 7, which refuse a whole list, then of each call the others; the first that fits is given, lowest number first.
+/// Checked are first 4 to 7, which refuse a whole list, then of each call 3 and 8 to 14; the first that fits is given.
 #[derive(Clone, Copy, Debug, PartialEq, Eq, Hash)]
 #[non_exhaustive]
 #[repr(u32)]
@@ -11,7 +11,7 @@ pub enum Refusal {
     SheetTooLong = 1,
     /// The answer buffer has fewer than [`ANSWER_ROOM`](crate::ANSWER_ROOM) bytes for each newline of the sheet.
     BufferTooShort = 2,
-    /// The call does not have its form: a group has more than [`MAX_GROUP`](crate::MAX_GROUP) variables.
+    /// A group has more than [`MAX_GROUP`](crate::MAX_GROUP) variables. In the answers to a sheet: the line does not have its form.
     Form = 3,
     /// There are more than [`MAX_VARIABLES`](crate::MAX_VARIABLES) variables.
     TooManyVariables = 4,
@@ -82,7 +82,7 @@ impl fmt::Display for Refusal {
         f.write_str(match self {
             Refusal::SheetTooLong => "the sheet has more than 32,768 bytes",
             Refusal::BufferTooShort => "the answer buffer has fewer than 24 bytes for each newline of the sheet",
-            Refusal::Form => "the call does not have its form",
+            Refusal::Form => "a group has more than 2,048 variables",
             Refusal::TooManyVariables => "there are more than 2,048 variables",
             Refusal::Length => "an array does not have exactly one place for each variable",
             Refusal::Clauses => "the clause list is too long, names a variable that does not exist, or has ends that do not fit",

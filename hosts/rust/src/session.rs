@@ -239,7 +239,8 @@ impl<'a> Session<'a> {
     }
 
     /// Lends another clause list from now on and gives back the former one. The next call checks it: a list that is not good gets [`Refusal::Clauses`],
-    /// one that lacks the clause of a reason [`Refusal::State`], as long as it is lent.
+    /// one with too few clauses for the number of a reason [`Refusal::State`], as long as it is lent. It has the clauses that are reasons under the same
+    /// numbers; this is not checked.
     pub fn lend(&mut self, clauses: Clauses<'a>) -> Clauses<'a> {
         std::mem::replace(&mut self.clauses, clauses)
     }
@@ -290,18 +291,20 @@ impl Session<'_> {
         self.done(call::learn_unit(lit))
     }
 
-    /// Goes back to the level, and tells how many variables were undone. A level that is not below the present one undoes nothing. Never refused.
+    /// Goes back to the level, and tells how many variables were undone. A level that is not below the present one undoes nothing. The call
+    /// has no refusal of its own.
     pub fn go_back(&mut self, level: u32) -> Result<u32, Refusal> {
         Ok(self.one(&[], call::go_back(level))?.expect("going back tells how many variables were undone"))
     }
 
-    /// Bumps each variable of the variable's reason clause except the first. In list mode this does nothing. Refused with [`Refusal::Variable`].
+    /// Bumps each variable of the variable's reason clause except the first; without a reason none. In list mode this does nothing. Refused with
+    /// [`Refusal::Variable`].
     pub fn bump_reason(&mut self, var: u32) -> Result<(), Refusal> {
         self.done(call::bump_reason(var))
     }
 
-    /// Moves the variables to the front of the list, the one furthest back first. In heap mode this does nothing. Refused with [`Refusal::Form`] for more than
-    /// [`MAX_GROUP`](crate::MAX_GROUP) variables, and with [`Refusal::Variable`].
+    /// Moves the variables to the front of the list, where they keep their order among themselves. In heap mode this does nothing. Refused with
+    /// [`Refusal::Form`] for more than [`MAX_GROUP`](crate::MAX_GROUP) variables, and with [`Refusal::Variable`].
     pub fn group(&mut self, vars: &[u32]) -> Result<(), Refusal> {
         self.one(vars, call::group(0, count(vars.len()))).map(drop)
     }

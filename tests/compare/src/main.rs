@@ -6,8 +6,14 @@
 mod tally;
 
 use reference::generator::{examples, named, sheet};
+use sigvort as _; // links the proved chooser
 use std::{env, fs, path::Path, process::ExitCode};
 use tally::Tally;
+
+extern "C" {
+    /// The proved chooser's entry for sheets, as `hosts/c/sigvort.h` has it.
+    fn sigvort_run(sheet: *const u8, sheet_len: usize, answers: *mut u8, answers_len: usize) -> u32;
+}
 
 /// A sheet on which the two differ, and what each made of it.
 struct Difference {
@@ -40,7 +46,7 @@ impl Buffers {
         self.fill(room, sheet.len() as u8);
         let reference = reference::run(sheet, &mut self.reference);
         // SAFETY: sheet and buffer are slices of these lengths, and the buffer is no part of the sheet.
-        let proved = unsafe { sigvort::ffi::sigvort_run(sheet.as_ptr(), sheet.len(), self.proved.as_mut_ptr(), self.proved.len()) };
+        let proved = unsafe { sigvort_run(sheet.as_ptr(), sheet.len(), self.proved.as_mut_ptr(), self.proved.len()) };
         tally.add(sheet, reference, &self.reference);
         if (reference, &self.reference) == (proved, &self.proved) {
             return Ok(proved);

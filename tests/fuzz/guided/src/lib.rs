@@ -4,6 +4,11 @@ use std::slice;
 
 const PATTERN: u8 = 0xa5;
 
+extern "C" {
+    /// The proved chooser's entry for sheets, as `hosts/c/sigvort.h` has it. The fuzzer is linked with `libdesk.a`.
+    fn sigvort_run(sheet: *const u8, sheet_len: usize, answers: *mut u8, answers_len: usize) -> u32;
+}
+
 /// Runs both on the bytes as a sheet. A difference aborts, and the fuzzer keeps the sheet.
 ///
 /// # Safety
@@ -18,7 +23,7 @@ pub unsafe extern "C" fn LLVMFuzzerTestOneInput(data: *const u8, len: usize) -> 
     let mut expected = vec![PATTERN; room];
     let mut answers = expected.clone();
     let returned = reference::run(sheet, &mut expected);
-    let proved = sigvort::ffi::sigvort_run(sheet.as_ptr(), len, answers.as_mut_ptr(), room);
+    let proved = sigvort_run(sheet.as_ptr(), len, answers.as_mut_ptr(), room);
     assert!((returned, &expected) == (proved, &answers), "returned: reference {returned}, proved {proved}");
     0
 }
