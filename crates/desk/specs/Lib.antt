@@ -3,4 +3,3 @@ pub mod Ran
 pub mod Memory
 pub mod Opening
 pub mod Positions
-pub mod Native

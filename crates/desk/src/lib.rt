@@ -17,8 +17,6 @@ use lit::NONE;
 use lit::SHORT_BUFFER;
 
 pub mod memory;
-pub mod native_heap;
-pub mod native_list;
 pub mod opening;
 
 // Runs a sheet: gives the count of bytes written to `out`, or 4294967295 minus refusal 1 or 2. The positions are working memory for the heap,

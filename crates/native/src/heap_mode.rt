@@ -6,7 +6,7 @@ ghost use Rattle.session.specs.Entry.{Answered};
 ghost use Rattle.heap_session.specs.Memory.{sessionOf};
 ghost use Rattle.heap_entry.specs.Entry.{made};
 ghost use Rattle.heap_calls.specs.Lists.{enteredWords};
-ghost use Rattle.desk.specs.Native.{heapState};
+ghost use Rattle.native.specs.Small.{heapState};
 use activity::Step;
 use heap_session::HeapState;
 use trail::TrailState;

@@ -1,10 +1,10 @@
--- `desk::native_list::sigvort_list_fresh` meets its contract: what creation answers, with the small states as numbers.
+-- `native::list_mode::sigvort_list_fresh` meets its contract: what creation answers, with the small states as numbers.
 use borrow.Author.Needs.{needs}
 use Rattle.session.specs.Mode.{lengthsOk, made}
 use Rattle.list_session.specs.Memory.{sessionOf}
-use Rattle.desk.specs.Native.{listState, listWith, refused-kept, made-accepted}
-use Rattle.desk.proofs.native_list.sigvort_list_fresh.Statement.{statement}
-use Rattle.desk.proofs.native_list.sigvort_list_fresh.Tie as tie
+use Rattle.native.specs.Small.{listState, listWith, refused-kept, made-accepted}
+use Rattle.native.proofs.list_mode.sigvort_list_fresh.Statement.{statement}
+use Rattle.native.proofs.list_mode.sigvort_list_fresh.Tie as tie
 
 returns : tie.Need-returns
 unfolding made lengthsOk

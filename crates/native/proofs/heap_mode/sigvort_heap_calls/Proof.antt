@@ -1,4 +1,4 @@
--- `desk::native_heap::sigvort_heap_calls` meets its contract: what the list answers, with the small states as numbers.
+-- `native::heap_mode::sigvort_heap_calls` meets its contract: what the list answers, with the small states as numbers.
 use borrow.Author.Needs.{needs}
 use mathlib.Core.List.{List}
 use Prim.Native.Nat.{ℕ}
@@ -7,9 +7,9 @@ use Rattle.choosers.specs.Heap.{heapOps}
 use Rattle.book.specs.Session.{Session}
 use Rattle.heap_entry.specs.Entry.{heapMode}
 use Rattle.heap_session.specs.Memory.{sessionOf}
-use Rattle.desk.specs.Native.{heapState, heapWith, refused-kept, list-answered}
-use Rattle.desk.proofs.native_heap.sigvort_heap_calls.Statement.{statement}
-use Rattle.desk.proofs.native_heap.sigvort_heap_calls.Tie as tie
+use Rattle.native.specs.Small.{heapState, heapWith, refused-kept, list-answered}
+use Rattle.native.proofs.heap_mode.sigvort_heap_calls.Statement.{statement}
+use Rattle.native.proofs.heap_mode.sigvort_heap_calls.Tie as tie
 
 returns : tie.Need-returns
 returns c =

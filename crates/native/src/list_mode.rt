@@ -6,7 +6,7 @@ ghost use Rattle.session.specs.Entry.{Answered};
 ghost use Rattle.list_session.specs.Memory.{sessionOf};
 ghost use Rattle.list_entry.specs.Entry.{madeAlone};
 ghost use Rattle.list_calls.specs.Lists.{enteredWords};
-ghost use Rattle.desk.specs.Native.{listState};
+ghost use Rattle.native.specs.Small.{listState};
 use list_session::ListState;
 use trail::TrailState;
 use vmtf::VmtfState;

@@ -1,4 +1,4 @@
--- `desk::native_list::sigvort_list_calls` meets its contract: what the list answers, with the small states as numbers.
+-- `native::list_mode::sigvort_list_calls` meets its contract: what the list answers, with the small states as numbers.
 use borrow.Author.Needs.{needs}
 use mathlib.Core.List.{List}
 use Prim.Native.Nat.{ℕ}
@@ -7,9 +7,9 @@ use Rattle.choosers.specs.List.{listOps}
 use Rattle.book.specs.Session.{Session}
 use Rattle.list_entry.specs.Entry.{listMode}
 use Rattle.list_session.specs.Memory.{sessionOf}
-use Rattle.desk.specs.Native.{listState, listWith, refused-kept, list-answered}
-use Rattle.desk.proofs.native_list.sigvort_list_calls.Statement.{statement}
-use Rattle.desk.proofs.native_list.sigvort_list_calls.Tie as tie
+use Rattle.native.specs.Small.{listState, listWith, refused-kept, list-answered}
+use Rattle.native.proofs.list_mode.sigvort_list_calls.Statement.{statement}
+use Rattle.native.proofs.list_mode.sigvort_list_calls.Tie as tie
 
 returns : tie.Need-returns
 returns c =

@@ -1,10 +1,10 @@
--- `desk::native_heap::sigvort_heap_fresh` meets its contract: what creation answers, with the small states as numbers.
+-- `native::heap_mode::sigvort_heap_fresh` meets its contract: what creation answers, with the small states as numbers.
 use borrow.Author.Needs.{needs}
 use Rattle.session.specs.Mode.{lengthsOk, made}
 use Rattle.heap_session.specs.Memory.{sessionOf}
-use Rattle.desk.specs.Native.{heapState, heapWith, refused-kept, made-accepted}
-use Rattle.desk.proofs.native_heap.sigvort_heap_fresh.Statement.{statement}
-use Rattle.desk.proofs.native_heap.sigvort_heap_fresh.Tie as tie
+use Rattle.native.specs.Small.{heapState, heapWith, refused-kept, made-accepted}
+use Rattle.native.proofs.heap_mode.sigvort_heap_fresh.Statement.{statement}
+use Rattle.native.proofs.heap_mode.sigvort_heap_fresh.Tie as tie
 
 returns : tie.Need-returns
 unfolding made lengthsOk

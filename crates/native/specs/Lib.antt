@@ -1,0 +1,2 @@
+-- The small states of a session as hosts lend them.
+pub mod Small
