@@ -1,4 +1,4 @@
-//! Links the proved chooser, `libdesk.a`, from the folder that SIGVORT_LIB_DIR names, or else from where `rt staticlib desk` writes it.
+//! Links the proved chooser, `libsigvort.a`, from the folder that SIGVORT_LIB_DIR names, or else from where `hosts/library` writes it.
 
 use std::{env, path::PathBuf};
 
@@ -8,7 +8,7 @@ fn main() {
         None => PathBuf::from(env!("CARGO_MANIFEST_DIR")).join("../../target/staticlib"),
     };
     println!("cargo:rerun-if-env-changed=SIGVORT_LIB_DIR");
-    println!("cargo:rerun-if-changed={}", folder.join("libdesk.a").display());
+    println!("cargo:rerun-if-changed={}", folder.join("libsigvort.a").display());
     println!("cargo:rustc-link-search=native={}", folder.display());
-    println!("cargo:rustc-link-lib=static=desk");
+    println!("cargo:rustc-link-lib=static=sigvort");
 }

@@ -18,7 +18,7 @@ use Rattle.words.specs.Words as words
 use Rattle.words.specs.Words.{wordCall, wordsFit, Handed, handed}
 use Rattle.words.specs.Going.{callAt, Told, Part, part-more}
 use Rattle.words.specs.Alone as either
-use Rattle.list_entry.specs.Entry.{listMode, entered, madeAlone}
+use Rattle.list_entry.specs.Entry.{listMode, entered, madeUnaided}
 use Rattle.list_session.specs.Kept.{IsGood}
 use Rattle.list_entry.specs.Checked.{kept, list-sound}
 use Rattle.list_entry.specs.Term3.{listOver, made-lists-term3}
@@ -55,8 +55,8 @@ module _ (n m : ℕ) (lits : List ℕ) (literals : ℕ) (ends vars : List ℕ) w
   list-good ws answers s = either.list-good n m (listMode n m lits) lits literals ends vars (list-sound n m lits ends) ws answers s tt
 
 -- Term 3: over any number of lists in a row, refused ones included and whatever each is lent with, from the session that an accepted creation made
-pub made-words-term3 : (g : Lending) (s : Session (g .n) (g .m) (listOps (g .n) (g .lits))) → status (madeAlone (g .n) (g .m) (g .lits) (g .literals) (g .ends) s) ≡ 0 → (lists : List Handed)
-    → let r = startingWith (g .n) (g .m) (listOps (g .n) (g .lits)) (leaves s (madeAlone (g .n) (g .m) (g .lits) (g .literals) (g .ends) s)) in
+pub made-words-term3 : (g : Lending) (s : Session (g .n) (g .m) (listOps (g .n) (g .lits))) → status (madeUnaided (g .n) (g .m) (g .lits) (g .literals) (g .ends) s) ≡ 0 → (lists : List Handed)
+    → let r = startingWith (g .n) (g .m) (listOps (g .n) (g .lits)) (leaves s (madeUnaided (g .n) (g .m) (g .lits) (g .literals) (g .ends) s)) in
     Claim (g .n) (g .m) (listOps (g .n) (g .lits)) (runLists listOver (λ g h c. c) g r (map handed lists))
 made-words-term3 g s e lists = made-lists-term3 g s e (map handed lists)
 

@@ -18,7 +18,7 @@ use list_entry::refusal;
 use list_session::ListAnswer;
 use list_session::ListState;
 use list_session::accept;
-use list_session::group_alone;
+use list_session::group_unaided;
 use list_session::refuse;
 use list_session::step::step;
 use lit::BAD_LINE;
@@ -67,7 +67,7 @@ fn words_call(
         Said::Group => {
             let from = a as usize;
             let end = from + b as usize;
-            group_alone(n, next, prev, ts, s, &vars[from..end])
+            group_unaided(n, next, prev, ts, s, &vars[from..end])
         }
         Said::Is(call) => {
             step(

@@ -31,8 +31,8 @@ abbrev pub made : (n m : ℕ) (lits : List ℕ) → ℕ → List ℕ → List �
 made n m lits literals ends counts indexes = mode.made n m (listMode n m lits) lits literals ends (scratchLengths n (length counts) (length indexes))
 
 -- the same without lent scratch
-abbrev pub madeAlone : (n m : ℕ) (lits : List ℕ) → ℕ → List ℕ → Session n m (listOps n lits) → Result (Session n m (listOps n lits))
-madeAlone n m lits literals ends = mode.made n m (listMode n m lits) lits literals ends true
+abbrev pub madeUnaided : (n m : ℕ) (lits : List ℕ) → ℕ → List ℕ → Session n m (listOps n lits) → Result (Session n m (listOps n lits))
+madeUnaided n m lits literals ends = mode.made n m (listMode n m lits) lits literals ends true
 
 -- DECISIONS 26: the small states that come back where no session was made
 abbrev pub blank : ListState

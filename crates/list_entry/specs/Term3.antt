@@ -17,7 +17,7 @@ use Rattle.session.specs.Mode.{Mode, scratchLengths}
 use Rattle.session.specs.Runs as runs
 use Rattle.session.specs.Runs.{runLent, runLists, FoundedBy, Family}
 use Rattle.list_session.specs.Kept.{IsGood}
-use Rattle.list_entry.specs.Entry.{listMode, entered, made, madeAlone}
+use Rattle.list_entry.specs.Entry.{listMode, entered, made, madeUnaided}
 use Rattle.list_entry.specs.Checked.{list-sound}
 
 -- the mode over what is lent
@@ -54,9 +54,9 @@ module _ (g : Lending) where
   list-term3 = runs.lent-term3 listOver (λ g h c. c) list-family g
 
   -- and over any number of lists of calls in a row, each checked once and with whatever it is lent with
-  pub made-lists-term3 : (s : Session (g .n) (g .m) (listOps (g .n) (g .lits))) → status (madeAlone (g .n) (g .m) (g .lits) (g .literals) (g .ends) s) ≡ 0
+  pub made-lists-term3 : (s : Session (g .n) (g .m) (listOps (g .n) (g .lits))) → status (madeUnaided (g .n) (g .m) (g .lits) (g .literals) (g .ends) s) ≡ 0
       → (lists : List (Lending × Bool × List Call))
-      → let r = startingWith (g .n) (g .m) (listOps (g .n) (g .lits)) (leaves s (madeAlone (g .n) (g .m) (g .lits) (g .literals) (g .ends) s)) in
+      → let r = startingWith (g .n) (g .m) (listOps (g .n) (g .lits)) (leaves s (madeUnaided (g .n) (g .m) (g .lits) (g .literals) (g .ends) s)) in
       Claim (g .n) (g .m) (listOps (g .n) (g .lits)) (runLists listOver (λ g h c. c) g r lists)
   made-lists-term3 = runs.made-lists-term3 listOver (λ g h c. c) list-family g true
 

@@ -3,7 +3,7 @@ ghost use mathlib.Core.Path.{_≡_};
 ghost use lib.Dec.{eqb};
 ghost use Rattle.session.specs.Entry.{Answered};
 ghost use Rattle.list_session.specs.Memory.{sessionOf, cleared};
-ghost use Rattle.list_entry.specs.Entry.{made, madeAlone, blank};
+ghost use Rattle.list_entry.specs.Entry.{made, madeUnaided, blank};
 use crate::lengths_ok;
 use list_session::ListAnswer;
 use list_session::ListState;
@@ -90,7 +90,7 @@ pub fn fresh(
 }
 
 // The same with the levels and the reasons as scratch, before they are made fresh.
-pub fn fresh_alone(
+pub fn fresh_unaided(
     n: u32,
     literals: u32,
     clauses: u32,
@@ -112,7 +112,7 @@ pub fn fresh_alone(
         let after = sessionOf n clauses (now (lits .entry))
         (now (values .exit)) (now (levels .exit)) (now (reasons .exit)) (now (trail .exit)) (now (opened .exit))
         (now (next .exit)) (now (prev .exit)) (now (ts .exit)) (r .state) in
-        ⌜ Answered (madeAlone n clauses (now (lits .entry)) literals (now (ends .entry)) before) before (r .status) (r .reply) after ⌝ }
+        ⌜ Answered (madeUnaided n clauses (now (lits .entry)) literals (now (ends .entry)) before) before (r .status) (r .reply) after ⌝ }
 {
     let lengths = lengths_ok(
         n,

@@ -183,7 +183,7 @@ const SOME: usize = 512;
 const MANY: usize = MAX_GROUP as usize;
 
 // The same with scratch of its own.
-pub fn group_alone(
+pub fn group_unaided(
     n: u32,
     next: &mut [u32],
     prev: &mut [u32],

@@ -39,7 +39,7 @@ fn group_with(
     let Count::Are(k) = forms::read_group(line, vars) else {
         return list_session::refuse(BAD_LINE, s);
     };
-    list_session::group_alone(n, next, prev, ts, s, &vars[..k])
+    list_session::group_unaided(n, next, prev, ts, s, &vars[..k])
 }
 
 // The same with scratch of its own, as long as the line may need.

@@ -4,7 +4,7 @@ ghost use lib.ListN.{length};
 ghost use Rattle.lit.specs.Numbers as number;
 ghost use Rattle.session.specs.Entry.{Answered};
 ghost use Rattle.list_session.specs.Memory.{sessionOf};
-ghost use Rattle.list_entry.specs.Entry.{madeAlone};
+ghost use Rattle.list_entry.specs.Entry.{madeUnaided};
 ghost use Rattle.list_calls.specs.Lists.{enteredWords};
 ghost use Rattle.native.specs.Small.{listState};
 use list_session::ListState;
@@ -41,9 +41,9 @@ pub extern "C" fn sigvort_list_fresh(
         let after = sessionOf n clauses (now (lits .entry))
         (now (values .exit)) (now (levels .exit)) (now (reasons .exit)) (now (trail .exit)) (now (opened .exit))
         (now (next .exit)) (now (prev .exit)) (now (ts .exit)) (listState (now (len .exit)) (now (level .exit)) (now («curr_i» .exit)) (now (start .exit)) (now (search .exit)) (now (timestamp .exit))) in
-        ⌜ Answered (madeAlone n clauses (now (lits .entry)) literals (now (ends .entry)) before) before r number.NONE after ⌝ }
+        ⌜ Answered (madeUnaided n clauses (now (lits .entry)) literals (now (ends .entry)) before) before r number.NONE after ⌝ }
 {
-    let a = list_entry::creation::fresh_alone(
+    let a = list_entry::creation::fresh_unaided(
         n,
         literals,
         clauses,

@@ -41,9 +41,9 @@ pub record Mode : Type 1 where
 
 -- over n variables and m clauses, with the clause list and the stated number of literals
 module _ (n m : ℕ) (M : Mode) (lits : List ℕ) (literals : ℕ) (ends : List ℕ) where
-  -- all that refusal 5 looks at; whether scratch has its lengths is known beside
+  -- all that refusal 5 looks at; whether a group's scratch has its lengths, or the answers of a list have theirs, is known beside
   unfoldable pub lengthsOk : Session n m (M .ops) → Bool → Bool
-  lengthsOk s scratch = trailLengths n (s .trail) && (M .lengths (s .chooser) && (clauseLengths literals m lits ends && scratch))
+  lengthsOk s beside = trailLengths n (s .trail) && (M .lengths (s .chooser) && (clauseLengths literals m lits ends && beside))
 
   -- a call on the session as lent
   unfoldable pub entered : Asked → Session n m (M .ops) → Result (Session n m (M .ops))

@@ -55,7 +55,7 @@ module _ (M : Lending → Mode) (into : (g h : Lending) → M g .ops .State → 
   abbrev pub listOver : (g h : Lending) → Bool → List Call → SessionOver g → Result (Run (h .n) (h .m) (M h .ops))
   listOver g h fit cs s = enteredList (h .n) (h .m) (M h) (h .lits) (h .literals) (h .ends) fit cs (moved g h s)
 
-  -- a run over g, gone on by what such a list came to
+  -- a run over g, gone on by what such a list came to; a refused one puts nothing in the log
   abbrev pub goneOn : (g h : Lending) → Run (g .n) (g .m) (M g .ops) → Result (Run (h .n) (h .m) (M h .ops)) → Run (g .n) (g .m) (M g .ops)
   goneOn g h r (done k u) = record { now = moved h g (u .now); past = u .past ++ r .past }
   goneOn g h r (refuse k) = r

@@ -34,7 +34,7 @@
 //!
 //! # Linking
 //!
-//! The build script links `libdesk.a` from the folder that the environment variable `SIGVORT_LIB_DIR` names, or else from where `rt staticlib desk` writes it. The
+//! The build script links `libsigvort.a` from the folder that the environment variable `SIGVORT_LIB_DIR` names, or else from where `hosts/library` writes it. The
 //! archive and this crate are of one release: a status that this crate does not know makes a call panic.
 
 #![deny(missing_docs)]

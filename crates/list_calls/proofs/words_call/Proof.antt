@@ -11,8 +11,8 @@ use borrow.Author.Needs.{needs}
 use Rattle.list_calls.proofs.words_call.Statement.{statement}
 use Rattle.list_calls.proofs.words_call.Tie as tie
 
-part-group-alone-end : tie.Need-part-group-alone-end
-part-group-alone-end c = group-fits (c .before .before .before .before .before .read-words .ensures) (c .before .before .before .enum-told2 .given .1) .1
+part-group-unaided-end : tie.Need-part-group-unaided-end
+part-group-unaided-end c = group-fits (c .before .before .before .before .before .read-words .ensures) (c .before .before .before .enum-told2 .given .1) .1
 
 -- the variables of a group are as many as it says
 few-vars : (vars : List ℕ) (a b : ℕ) → (b ≤ maxGroup) × (a + b ≤ length vars) → length (take (a + b - a) (drop a vars)) ≤ maxGroup
@@ -21,8 +21,8 @@ few-vars vars a b (few, within) =
     let k : length (take (a + b - a) (drop a vars)) ≡ a + b - a = length-take-le (a + b - a) (drop a vars) (omega (arith, e, within)) in
     omega (arith, k, few)
 
-group-alone-requires : tie.Need-group-alone-requires
-group-alone-requires c κs = (c .before .before .before .before .before .before .before .before .before .before .before .before .before .before .before .before .pre .list, few-vars _ _ _ (group-fits (c .before .before .before .before .before .before .read-words .ensures) (c .before .before .before .before .enum-told2 .given .1)))
+group-unaided-requires : tie.Need-group-unaided-requires
+group-unaided-requires c κs = (c .before .before .before .before .before .before .before .before .before .before .before .before .before .before .before .before .pre .list, few-vars _ _ _ (group-fits (c .before .before .before .before .before .before .read-words .ensures) (c .before .before .before .before .enum-told2 .given .1)))
 
 step-requires : tie.Need-step-requires
 step-requires c κs = (c .before .before .before .before .before .before .before .before .before .before .before .before .before .before .before .before .before .before .before .before .before .before .before .before .pre, λ e. (refl, refl))
@@ -34,7 +34,7 @@ returns-2 : tie.Need-returns-2
 returns-2 c =
     let a = c .before .before .before .before .before .before .before .before .before .before .before .before .before .before .before .before .before .before .before .before .before .before .before .args in
     λ lits. words-group (c .before .before .before .before .before .before .before .before .before .before .before .before .before .read-words .ensures) (a .a + a .b) (c .before .before .before .before .before .before .before .before .before .before .before .enum-told2 .given .1) refl
-    (c .before .before .before .before .before .before .group-alone .ensures (a .m) lits (a .values .now) (a .levels .now) (a .reasons .now) (a .trail .now) (a .opened .now))
+    (c .before .before .before .before .before .before .group-unaided .ensures (a .m) lits (a .values .now) (a .levels .now) (a .reasons .now) (a .trail .now) (a .opened .now))
 
 returns-3 : tie.Need-returns-3
 returns-3 c = λ lits. words-answered (c .before .before .before .before .before .before .before .before .before .before .before .before .before .before .before .before .before .before .before .before .before .before .before .before .before .before .before .before .before .before .before .before .before .read-words .ensures) (c .before .before .before .before .before .before .before .before .before .before .before .before .before .before .before .before .before .before .before .before .before .before .before .before .before .before .before .before .before .before .before .call .given .1) (c .before .before .before .before .before .before .before .before .before .before .before .before .before .before .before .before .before .before .step .ensures .0 lits)
@@ -51,17 +51,17 @@ words-call-spec =
     (λ c. search needs)
     (λ c. search needs)
     (λ c. search needs)
-    part-group-alone-end
-    group-alone-requires
+    part-group-unaided-end
+    group-unaided-requires
     (λ c. search needs)
     (λ c. refl)
     (λ c. refl)
     (λ c. refl)
     step-requires
     returns
-    (λ c. c .before .before .before .before .before .before .group-alone .kept .1 .0)
-    (λ c. c .before .before .before .before .before .before .group-alone .kept .1 .1 .0)
-    (λ c. c .before .before .before .before .before .before .group-alone .kept .1 .1 .1 .0)
+    (λ c. c .before .before .before .before .before .before .group-unaided .kept .1 .0)
+    (λ c. c .before .before .before .before .before .before .group-unaided .kept .1 .1 .0)
+    (λ c. c .before .before .before .before .before .before .group-unaided .kept .1 .1 .1 .0)
     returns-2
     (λ c. c .before .before .before .before .before .before .before .before .before .before .before .before .before .before .before .before .before .before .step .kept .1 .1 .0)
     (λ c. c .before .before .before .before .before .before .before .before .before .before .before .before .before .before .before .before .before .before .step .kept .1 .1 .1 .0)

@@ -5,7 +5,7 @@ use std::slice;
 const PATTERN: u8 = 0xa5;
 
 extern "C" {
-    /// The proved chooser's entry for sheets, as `hosts/c/sigvort.h` has it. The fuzzer is linked with `libdesk.a`.
+    /// The proved chooser's entry for sheets, as `hosts/c/sigvort.h` has it. The fuzzer is linked with `libsigvort.a`.
     fn sigvort_run(sheet: *const u8, sheet_len: usize, answers: *mut u8, answers_len: usize) -> u32;
 }
 

@@ -1,4 +1,4 @@
--- `list_entry::creation::fresh_alone` meets its contract: as `fresh`, and what the scratch holds is written over.
+-- `list_entry::creation::fresh_unaided` meets its contract: as `fresh`, and what the scratch holds is written over.
 use mathlib.Core.Path.{refl, sym, ap, _∙_}
 use native.Mathlib.Omega.{arith}
 use borrow.Author.Needs.{needs}
@@ -13,8 +13,8 @@ use Rattle.session.specs.Mode.{made}
 use Rattle.list_session.specs.Memory.{sessionOf}
 use Rattle.list_entry.specs.Entry.{blank}
 use Rattle.list_entry.specs.Checked.{list-sized}
-use Rattle.list_entry.proofs.creation.fresh_alone.Statement.{statement}
-use Rattle.list_entry.proofs.creation.fresh_alone.Tie as tie
+use Rattle.list_entry.proofs.creation.fresh_unaided.Statement.{statement}
+use Rattle.list_entry.proofs.creation.fresh_unaided.Tie as tie
 
 returns : tie.Need-returns
 unfolding made
@@ -57,8 +57,8 @@ returns-2 c =
     rw (c .accept .ensures, size-accepted _ _ _ _ e)
     (opened (a .n) (a .clauses) (listOps (a .n) (a .lits .now)) (sessionOf (a .n) (a .clauses) (a .lits .now) (a .values .now) (a .levels .now) (a .reasons .now) (a .trail .now) (a .opened .now) (a .next .now) (a .prev .now) (a .ts .now) blank) _ _ (c .before .before .before .before .before .before .before .before .before .before .before .new-trail .ensures ∙ ap freshTrail (z .0 .trail .values-long)) (c .before .before .before .before .before .before .before .before .before .before .before .before .before .before .before .before .before .before .before .before .before .before .before .before .before .before .before .new .ensures .0 ∙ ap (λ k. vmtf.new k (a .lits .now)) (l .next-long)))
 
-pub fresh-alone-spec : {M : Type 1} → statement M
-fresh-alone-spec =
+pub fresh-unaided-spec : {M : Type 1} → statement M
+fresh-unaided-spec =
     tie.close
     (tie.spec
     (λ c κs. search needs)
