@@ -113,8 +113,8 @@ static inline uint32_t sigvort_code(uint32_t variable, int positive)
    opened      N words: for each level the trail's length before its decision
    len         how much of trail is in use
    level       how much of opened is in use: the present level
-   curr_i      the place from which a solver propagates, at most len. Going back sets it to the trail's length where it undoes something. No other call
-               changes it: the solver moves it on, and may set it to anything up to len between lists
+   curr_i      the place from which a solver propagates, at most len. Going back, a learnt unit's too, sets it to the trail's length where it undoes
+               something. No other call changes it: the solver moves it on, and may set it to anything up to len between lists
 
    These are of heap mode:
 

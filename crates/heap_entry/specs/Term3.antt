@@ -14,7 +14,7 @@ use Rattle.session.specs.Entered as either
 use Rattle.session.specs.Entered.{RightScratch, Founded}
 use Rattle.session.specs.Mode.{Mode}
 use Rattle.session.specs.Runs as runs
-use Rattle.session.specs.Runs.{runLent, runLists, FoundedBy, Family}
+use Rattle.session.specs.Runs.{Listed, runLent, runLists, FoundedBy, Family}
 use Rattle.heap_entry.specs.Entry.{heapMode, entered, made}
 use Rattle.heap_entry.specs.Kept.{chooser, IsGood}
 use Rattle.heap_entry.specs.Checked.{heap-sound}
@@ -48,9 +48,9 @@ module _ (g : Lending) where
       → Claim (g .n) (g .m) (heapOps (g .n) (g .lits) (g .ends)) (runLent heapOver (λ g h c. c) g (begin (g .n) (g .m) (heapOps (g .n) (g .lits) (g .ends))) asks)
   heap-term3 = runs.lent-term3 heapOver (λ g h c. c) heap-family g
 
-  -- and over any number of lists of calls in a row, each checked once and with whatever it is lent with
+  -- and over any number of lists of calls in a row, each checked once, with whatever it is lent with and `curr_i` as the host has set it
   pub made-lists-term3 : (s : Session (g .n) (g .m) (heapOps (g .n) (g .lits) (g .ends))) → status (made (g .n) (g .m) (g .lits) (g .literals) (g .ends) s) ≡ 0
-      → (lists : List (Lending × Bool × List Call))
+      → (lists : List Listed)
       → let r = startingWith (g .n) (g .m) (heapOps (g .n) (g .lits) (g .ends)) (leaves s (made (g .n) (g .m) (g .lits) (g .literals) (g .ends) s)) in
       Claim (g .n) (g .m) (heapOps (g .n) (g .lits) (g .ends)) (runLists heapOver (λ g h c. c) g r lists)
   made-lists-term3 = runs.made-lists-term3 heapOver (λ g h c. c) heap-family g true

@@ -2,14 +2,16 @@
 -- and where it is accepted it leaves a good session.
 use Prim.Native.Nat.{ℕ}
 use mathlib.Core.Path.{_≡_}
+use mathlib.Core.Bool.{Bool}
 use mathlib.Core.List.{List}
 use Rattle.choosers.specs.List.{listOps}
 use Rattle.book.specs.Session.{status, leaves, Session, call}
 use Rattle.session.specs.Asked.{Asked, asked}
+use Rattle.session.specs.Mode as mode
 use Rattle.session.specs.Entered as either
 use Rattle.session.specs.Entered.{RightScratch, GoodMemory}
 use Rattle.list_session.specs.Kept.{IsGood}
-use Rattle.list_entry.specs.Entry.{listMode, entered, made}
+use Rattle.list_entry.specs.Entry.{listMode, entered}
 use Rattle.list_entry.specs.Checked.{list-sound}
 
 module _ (n m : ℕ) (lits : List ℕ) (literals : ℕ) (ends : List ℕ) where
@@ -29,8 +31,7 @@ module _ (n m : ℕ) (lits : List ℕ) (literals : ℕ) (ends : List ℕ) where
     unfolding list-sound
     entered-good = either.entered-good n m (listMode n m lits) lits literals ends (list-sound n m lits ends) a s tt
 
-  -- and creation, where it is accepted, makes one
-  pub made-good : (counts indexes : List ℕ) (s : Session n m (listOps n lits)) → status (made n m lits literals ends counts indexes s) ≡ 0
-      → IsGood n m lits (leaves s (made n m lits literals ends counts indexes s))
+  -- and creation, where it is accepted, makes one, with scratch that is lent (`made`) or without (`madeUnaided`)
+  pub made-good : (scratch : Bool) (s : Session n m (listOps n lits)) → let x = mode.made n m (listMode n m lits) lits literals ends scratch s in status x ≡ 0 → IsGood n m lits (leaves s x)
   unfolding list-sound
-  made-good counts indexes = either.made-good n m (listMode n m lits) lits literals ends (list-sound n m lits ends) _
+  made-good = either.made-good n m (listMode n m lits) lits literals ends (list-sound n m lits ends)

@@ -14,8 +14,9 @@ use Rattle.session.specs.Asked.{Asked, asked, Lending}
 use Rattle.session.specs.Entered as either
 use Rattle.session.specs.Entered.{RightScratch, Founded}
 use Rattle.session.specs.Mode.{Mode, scratchLengths}
+use Rattle.session.specs.Mode as mode
 use Rattle.session.specs.Runs as runs
-use Rattle.session.specs.Runs.{runLent, runLists, FoundedBy, Family}
+use Rattle.session.specs.Runs.{Listed, runLent, runLists, FoundedBy, Family}
 use Rattle.list_session.specs.Kept.{IsGood}
 use Rattle.list_entry.specs.Entry.{listMode, entered, made, madeUnaided}
 use Rattle.list_entry.specs.Checked.{list-sound}
@@ -53,19 +54,19 @@ module _ (g : Lending) where
       → Claim (g .n) (g .m) (listOps (g .n) (g .lits)) (runLent listOver (λ g h c. c) g (begin (g .n) (g .m) (listOps (g .n) (g .lits))) asks)
   list-term3 = runs.lent-term3 listOver (λ g h c. c) list-family g
 
-  -- and over any number of lists of calls in a row, each checked once and with whatever it is lent with
+  -- and over any number of lists of calls in a row, each checked once, with whatever it is lent with and `curr_i` as the host has set it
   pub made-lists-term3 : (s : Session (g .n) (g .m) (listOps (g .n) (g .lits))) → status (madeUnaided (g .n) (g .m) (g .lits) (g .literals) (g .ends) s) ≡ 0
-      → (lists : List (Lending × Bool × List Call))
+      → (lists : List Listed)
       → let r = startingWith (g .n) (g .m) (listOps (g .n) (g .lits)) (leaves s (madeUnaided (g .n) (g .m) (g .lits) (g .literals) (g .ends) s)) in
       Claim (g .n) (g .m) (listOps (g .n) (g .lits)) (runLists listOver (λ g h c. c) g r lists)
   made-lists-term3 = runs.made-lists-term3 listOver (λ g h c. c) list-family g true
 
 module _ (n m : ℕ) (lits : List ℕ) (literals : ℕ) (ends : List ℕ) where
-  -- an accepted creation makes the session that `begin` has
-  pub made-begins : (counts indexes : List ℕ) (s : Session n m (listOps n lits)) → status (made n m lits literals ends counts indexes s) ≡ 0
-      → leaves s (made n m lits literals ends counts indexes s) ≡ (begin n m (listOps n lits)) .now
+  -- an accepted creation, with scratch that is lent or without, makes the session that `begin` has
+  pub made-begins : (scratch : Bool) (s : Session n m (listOps n lits)) → let x = mode.made n m (listMode n m lits) lits literals ends scratch s in
+      status x ≡ 0 → leaves s x ≡ (begin n m (listOps n lits)) .now
   unfolding begin
-  made-begins counts indexes s = either.made-fresh n m (listMode n m lits) lits literals ends (scratchLengths n (length counts) (length indexes)) s
+  made-begins = either.made-fresh n m (listMode n m lits) lits literals ends
 
   module _ (founded : Founded n m lits ends) (calls : List Call) where
     -- every session of a run is good

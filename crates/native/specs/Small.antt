@@ -22,16 +22,10 @@ use Rattle.heap_session.specs.declared.HeapState.{HeapState}
 use Rattle.list_session.specs.declared.ListState.{ListState}
 
 abbrev pub heapState : (len level curr members : ℕ) (inc decay : Float) → HeapState
-heapState len level curr members inc decay = record {
-  trail = record { len = len; level = level; «curr_i» = curr };
-  vsids = record { len = members; step = record { inc = inc; decay = decay } };
-}
+heapState len level curr members inc decay = record { trail = record { len = len; level = level; «curr_i» = curr }; vsids = record { len = members; step = record { inc = inc; decay = decay } } }
 
 abbrev pub listState : (len level curr start search timestamp : ℕ) → ListState
-listState len level curr start search timestamp = record {
-  trail = record { len = len; level = level; «curr_i» = curr };
-  vmtf = record { start = start; search = search; timestamp = timestamp };
-}
+listState len level curr start search timestamp = record { trail = record { len = len; level = level; «curr_i» = curr }; vmtf = record { start = start; search = search; timestamp = timestamp } }
 
 -- the session s with these small states
 abbrev pub heapWith : (n m : ℕ) (lits ends : List ℕ) → HeapState → Session n m (heapOps n lits ends) → Session n m (heapOps n lits ends)

@@ -11,9 +11,10 @@ use borrow.Author.Tests.{eqb-true}
 use Rattle.laws.specs.Tests.{true-or-false}
 use Rattle.laws.specs.Each.{Each}
 use Rattle.book.specs.Calls.{Call}
-use Rattle.book.specs.Chooser.{Chooser}
+use Rattle.trail.specs.Trail.{withLevels}
+use Rattle.book.specs.Chooser.{Operations, Chooser}
 use Rattle.book.specs.Session.{Result, done, refuse, status, leaves, mapped, Session, call}
-use Rattle.book.specs.Claim.{Run, startingWith, begin, extended, step, run, Claim}
+use Rattle.book.specs.Claim.{recordsOf, Run, startingWith, begin, extended, step, run, Claim}
 use Rattle.book.proofs.Books.{length-values}
 use Rattle.book.specs.Read.{behind, run-past}
 use Rattle.book.proofs.Term3.{Inv, began, stepped, turned-down, ran}
@@ -26,6 +27,14 @@ use Rattle.session.specs.Entered.{Sound, RightScratch, Founded, GoodMemo
 -- the clause list that is lent is good, as its counts say
 abbrev pub FoundedBy : Lending → Type 0
 FoundedBy g = Founded (g .n) (g .m) (g .lits) (g .ends)
+
+-- a list of calls: what it is lent with, where `curr_i` stands, whether answers and words fit, and the calls
+abbrev pub Listed : Type 0
+Listed = Lending × ℕ × Bool × List Call
+
+-- the session with `curr_i` as its host has set it: between two lists the solver propagates
+abbrev pub withCurr : {n m : ℕ} {O : Operations} → ℕ → Session n m O → Session n m O
+withCurr curr s = record { trail = withLevels (s .trail .opened) (s .trail .level) curr (s .trail); chooser = s .chooser }
 
 -- calls that are each lent with g
 abbrev pub allLent : Lending → List Asked → List (Lending × Asked)
@@ -51,9 +60,9 @@ module _ (M : Lending → Mode) (into : (g h : Lending) → M g .ops .State → 
   runLent g r [] = r
   runLent g r ((h, a) ∷ asks) = runLent g (extended (g .n) (g .m) (M g .ops) r (asked a) (enteredWith g h a (r .now))) asks
 
-  -- a list of calls that is lent with h, on the memory of a session over g; that answers and words fit is known beside
-  abbrev pub listOver : (g h : Lending) → Bool → List Call → SessionOver g → Result (Run (h .n) (h .m) (M h .ops))
-  listOver g h fit cs s = enteredList (h .n) (h .m) (M h) (h .lits) (h .literals) (h .ends) fit cs (moved g h s)
+  -- a list of calls that is lent with h, on the memory of a session over g
+  abbrev pub listWith : (g h : Lending) → ℕ → Bool → List Call → SessionOver g → Result (Run (h .n) (h .m) (M h .ops))
+  listWith g h curr fit cs s = enteredList (h .n) (h .m) (M h) (h .lits) (h .literals) (h .ends) fit cs (moved g h (withCurr curr s))
 
   -- a run over g, gone on by what such a list came to; a refused one puts nothing in the log
   abbrev pub goneOn : (g h : Lending) → Run (g .n) (g .m) (M g .ops) → Result (Run (h .n) (h .m) (M h .ops)) → Run (g .n) (g .m) (M g .ops)
@@ -61,9 +70,9 @@ module _ (M : Lending → Mode) (into : (g h : Lending) → M g .ops .State → 
   goneOn g h r (refuse k) = r
 
   -- any number of lists in a row
-  unfoldable pub runLists : (g : Lending) → Run (g .n) (g .m) (M g .ops) → List (Lending × Bool × List Call) → Run (g .n) (g .m) (M g .ops)
+  unfoldable pub runLists : (g : Lending) → Run (g .n) (g .m) (M g .ops) → List Listed → Run (g .n) (g .m) (M g .ops)
   runLists g r [] = r
-  runLists g r ((h, fit, cs) ∷ lists) = runLists g (goneOn g h r (listOver g h fit cs (r .now))) lists
+  runLists g r ((h, curr, fit, cs) ∷ lists) = runLists g (goneOn g h r (listWith g h curr fit cs (r .now))) lists
 
   -- What the modes owe: the memory is the same over each, and each is sound and has a chooser, which the memory suits over each N alike
   pub record Family : Type 1 where
@@ -149,26 +158,50 @@ module _ (M : Lending → Mode) (into : (g h : Lending) → M g .ops .State → 
     stays h r (done k u) z = absurd (true≢false z)
     stays h r (refuse k) z = refl
 
-    goes : (h : Lending) (fit : Bool) (cs : List Call) (r : Run (g .n) (g .m) (M g .ops)) → status (listOver g h fit cs (r .now)) ≡ 0 → Keeps r → KeepsOver h (goneOn g h r (listOver g h fit cs (r .now)))
+    -- what every run keeps says nothing of `curr_i`
+    abbrev placed : ℕ → Run (g .n) (g .m) (M g .ops) → Run (g .n) (g .m) (M g .ops)
+    placed curr r = record { now = withCurr curr (r .now); past = r .past }
+
+    placed-keeps : (curr : ℕ) (r : Run (g .n) (g .m) (M g .ops)) → Keeps r → Keeps (placed curr r)
+    unfolding recordsOf
+    placed-keeps curr r (w, p) =
+        let i = p .inv in
+        let t = i .good .holds in
+        let c = i .claim in (
+          w,
+          record {
+            same = p .same;
+            founded = p .founded;
+            inv = record {
+              good = record { fine = i .good .fine; holds = record { values = t .values; reasons = t .reasons; levels = t .levels; trail = t .trail; opened = t .opened }; ok = i .good .ok };
+              moments = i .moments;
+              claim = record { told = c .told; noneRight = c .noneRight; backRight = c .backRight; unitRight = c .unitRight };
+            };
+          },
+        )
+
+    goes : (h : Lending) (curr : ℕ) (fit : Bool) (cs : List Call) (r : Run (g .n) (g .m) (M g .ops)) → status (listWith g h curr fit cs (r .now)) ≡ 0 → Keeps (placed curr r)
+        → KeepsOver h (goneOn g h r (listWith g h curr fit cs (r .now)))
     unfolding enteredList
-    goes h fit cs r z p =
-        let s = moved g h (r .now) in
+    goes h curr fit cs r z p =
+        let r′ = placed curr r in
+        let s = moved g h (r′ .now) in
         let e = check.checked-zero (h .n) _ _ _ _ z in
-        let q = carried h r (passed-good (h .n) (h .m) (M h) (h .lits) (h .literals) (h .ends) (F .sound h) fit s (typed-over h r p) e .0) p in
+        let q = carried h r′ (passed-good (h .n) (h .m) (M h) (h .lits) (h .literals) (h .ends) (F .sound h) fit s (typed-over h r′ p) e .0) p in
         let u = run (h .n) (h .m) (M h .ops) (startingWith (h .n) (h .m) (M h .ops) s) cs in
-        let i = ran (h .n) (h .m) (M h .ops) (F .chooser h (q .founded)) (over h r) cs (q .inv) in
+        let i = ran (h .n) (h .m) (M h .ops) (F .chooser h (q .founded)) (over h r′) cs (q .inv) in
         rw (check.accepted (h .n) _ _ _ (done none u) e)
-        (record { same = q .same; founded = q .founded; inv = rw (F .through h g h (u .now .chooser) ∙ F .self h (u .now .chooser)) (rw (run-past (h .n) (h .m) (M h .ops) cs (over h r)) at i) })
+        (record { same = q .same; founded = q .founded; inv = rw (F .through h g h (u .now .chooser) ∙ F .self h (u .now .chooser)) (rw (run-past (h .n) (h .m) (M h .ops) cs (over h r′)) at i) })
 
-    listed : (h : Lending) (fit : Bool) (cs : List Call) (r : Run (g .n) (g .m) (M g .ops)) → Keeps r → Keeps (goneOn g h r (listOver g h fit cs (r .now)))
-    listed h fit cs r p =
-        let x = listOver g h fit cs (r .now) in
-        true-or-false (eqb (status x) 0) (λ z. (h, goes h fit cs r (eqb-true (status x) 0 z) p)) (λ z. subst Keeps (sym (stays h r x z)) p)
+    listed : (h : Lending) (curr : ℕ) (fit : Bool) (cs : List Call) (r : Run (g .n) (g .m) (M g .ops)) → Keeps r → Keeps (goneOn g h r (listWith g h curr fit cs (r .now)))
+    listed h curr fit cs r p =
+        let x = listWith g h curr fit cs (r .now) in
+        true-or-false (eqb (status x) 0) (λ z. (h, goes h curr fit cs r (eqb-true (status x) 0 z) (placed-keeps curr r p))) (λ z. subst Keeps (sym (stays h r x z)) p)
 
-    all-listed : (r : Run (g .n) (g .m) (M g .ops)) (lists : List (Lending × Bool × List Call)) → Keeps r → Keeps (runLists g r lists)
+    all-listed : (r : Run (g .n) (g .m) (M g .ops)) (lists : List Listed) → Keeps r → Keeps (runLists g r lists)
     unfolding runLists
     all-listed r [] p = p
-    all-listed r ((h, fit, cs) ∷ lists) p = all-listed _ lists (listed h fit cs r p)
+    all-listed r ((h, curr, fit, cs) ∷ lists) p = all-listed _ lists (listed h curr fit cs r p)
 
     started : FoundedBy g → Keeps (begin (g .n) (g .m) (M g .ops))
     started f = (g, record { same = refl; founded = f; inv = rw (F .self g (begin (g .n) (g .m) (M g .ops) .now .chooser)) (began (g .n) (g .m) (M g .ops) (F .chooser g f)) })
@@ -183,7 +216,7 @@ module _ (M : Lending → Mode) (into : (g h : Lending) → M g .ops .State → 
         claims (runLent g start asks) (along start asks (started f))
 
     -- and of any number of lists in a row
-    pub lists-term3 : FoundedBy g → (lists : List (Lending × Bool × List Call)) → Claim (g .n) (g .m) (M g .ops) (runLists g (begin (g .n) (g .m) (M g .ops)) lists)
+    pub lists-term3 : FoundedBy g → (lists : List Listed) → Claim (g .n) (g .m) (M g .ops) (runLists g (begin (g .n) (g .m) (M g .ops)) lists)
     lists-term3 f lists = let start = begin (g .n) (g .m) (M g .ops) in claims (runLists g start lists) (all-listed start lists (started f))
 
     -- and so from every session that an accepted creation made
@@ -197,7 +230,7 @@ module _ (M : Lending → Mode) (into : (g h : Lending) → M g .ops .State → 
         (lent-term3 (made-sizes (g .n) (g .m) (M g) (g .lits) (g .literals) (g .ends) scratch s e) asks)
 
     pub made-lists-term3 : (scratch : Bool) (s : SessionOver g) → status (made (g .n) (g .m) (M g) (g .lits) (g .literals) (g .ends) scratch s) ≡ 0
-        → (lists : List (Lending × Bool × List Call)) → let u = leaves s (made (g .n) (g .m) (M g) (g .lits) (g .literals) (g .ends) scratch s) in
+        → (lists : List Listed) → let u = leaves s (made (g .n) (g .m) (M g) (g .lits) (g .literals) (g .ends) scratch s) in
         Claim (g .n) (g .m) (M g .ops) (runLists g (startingWith (g .n) (g .m) (M g .ops) u) lists)
     unfolding begin
     made-lists-term3 scratch s e lists =

@@ -32,7 +32,7 @@ withVars values levels reasons t = record { values = values; levels = levels; re
 abbrev withCodes : List ℕ → ℕ → Trail → Trail
 withCodes trail len t = record { values = t .values; levels = t .levels; reasons = t .reasons; trail = trail; opened = t .opened; len = len; level = t .level; curr = t .curr }
 
-abbrev withLevels : List ℕ → ℕ → ℕ → Trail → Trail
+abbrev pub withLevels : List ℕ → ℕ → ℕ → Trail → Trail
 withLevels opened level curr t = record { values = t .values; levels = t .levels; reasons = t .reasons; trail = t .trail; opened = opened; len = t .len; level = level; curr = curr }
 
 -- `enq_assignment`

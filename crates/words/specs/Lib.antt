@@ -6,3 +6,4 @@ pub mod Read
 pub mod Going
 pub mod Alone
 pub mod Entered
+pub mod InARow

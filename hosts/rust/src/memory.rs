@@ -7,8 +7,8 @@ pub struct HeapState {
     pub len: u32,
     /// How much of `opened` is in use: the present level.
     pub level: u32,
-    /// The place from which a solver propagates, at most `len`. Going back sets it to the trail's length where it undoes something. No other call changes
-    /// it: the solver moves it on.
+    /// The place from which a solver propagates, at most `len`. Going back, a learnt unit's too, sets it to the trail's length where it undoes something. No
+    /// other call changes it: the solver moves it on.
     pub curr_i: u32,
     /// How much of `heap` is in use.
     pub members: u32,
@@ -25,8 +25,8 @@ pub struct ListState {
     pub len: u32,
     /// How much of `opened` is in use: the present level.
     pub level: u32,
-    /// The place from which a solver propagates, at most `len`. Going back sets it to the trail's length where it undoes something. No other call changes
-    /// it: the solver moves it on.
+    /// The place from which a solver propagates, at most `len`. Going back, a learnt unit's too, sets it to the trail's length where it undoes something. No
+    /// other call changes it: the solver moves it on.
     pub curr_i: u32,
     /// The front of the list, or [`NONE`](crate::NONE).
     pub start: u32,
