@@ -400,6 +400,32 @@ impl Session<'_> {
         &self.trail.opened[..self.trail.level as usize]
     }
 
+    /// The place on the trail from which a solver propagates. Going back, a learnt unit's too, sets it to the trail's length where it undoes something; no
+    /// other call changes it.
+    pub fn curr_i(&self) -> u32 {
+        self.trail.curr_i
+    }
+
+    /// Moves that place. Refused with [`Refusal::State`] where it lies behind the trail.
+    ///
+    /// ```
+    /// use sigvort::{Lit, Refusal, Session};
+    ///
+    /// let mut session = Session::heap(2)?;
+    /// session.enqueue(Lit::new(1, true), None)?;
+    /// session.set_curr_i(1)?;
+    /// assert_eq!(session.set_curr_i(2), Err(Refusal::State));
+    /// assert_eq!(session.curr_i(), 1);
+    /// # Ok::<(), Refusal>(())
+    /// ```
+    pub fn set_curr_i(&mut self, place: u32) -> Result<(), Refusal> {
+        if place > self.trail.len {
+            return Err(Refusal::State);
+        }
+        self.trail.curr_i = place;
+        Ok(())
+    }
+
     /// The value of each variable: 0, 1, or 2 where it is not assigned.
     pub fn values(&self) -> &[u8] {
         &self.trail.values

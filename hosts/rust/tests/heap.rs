@@ -115,7 +115,20 @@ fn what_is_assigned_can_be_read() {
     assert_eq!(session.go_back(0), Ok(2));
     assert_eq!(session.reason_of(1), None);
     assert_eq!(session.trail(), [pos(3)]);
-    assert_eq!(session.heap_state().unwrap().curr_i, 1);
+    assert_eq!(session.curr_i(), 1);
+}
+
+#[test]
+fn the_place_of_propagation_is_the_solvers_up_to_the_trails_end() {
+    let mut session = heap(3);
+    session.decide(true).unwrap();
+    session.enqueue(pos(1), None).unwrap();
+    session.set_curr_i(2).unwrap();
+    assert_eq!(session.set_curr_i(3), Err(Refusal::State));
+    session.enqueue(pos(2), None).unwrap();
+    assert_eq!(session.heap_state().unwrap().curr_i, 2);
+    session.learn_unit(neg(1)).unwrap();
+    assert_eq!((session.curr_i(), session.trail()), (0, &[neg(1)][..]));
 }
 
 #[test]
