@@ -94,7 +94,20 @@ impl Batch {
         self.push(call::switch_off(var))
     }
 
-    /// Appends a call of [`Session::decide`](crate::Session::decide). The reply is the variable, or `None` if nothing is open.
+    /// Appends a call of [`Session::decide`](crate::Session::decide). The reply is the variable, or `None` if nothing is open;
+    /// [`Decision`](crate::Decision) says the same in words.
+    ///
+    /// ```
+    /// use sigvort::{Batch, Decision, Session};
+    ///
+    /// let mut session = Session::heap(1)?;
+    /// let mut batch = Batch::new();
+    /// let places = [batch.decide(true), batch.decide(true)];
+    /// session.batch(&mut batch)?;
+    /// assert_eq!(Decision::from(batch.answer(places[0])?), Decision::Variable(0));
+    /// assert_eq!(Decision::from(batch.answer(places[1])?), Decision::None);
+    /// # Ok::<(), sigvort::Refusal>(())
+    /// ```
     #[inline]
     pub fn decide(&mut self, polarity: bool) -> usize {
         self.push(call::decide(polarity))
@@ -140,10 +153,13 @@ impl Batch {
     ///
     /// # Panics
     ///
-    /// Where there is no answer: the call was not handed over yet, or the whole list was refused.
+    /// Where there is no answer: the list has no call at that place, it was not handed over yet, or the whole list was refused.
     #[inline]
     pub fn answer(&self, place: usize) -> Result<Reply, Refusal> {
-        call::read(self.answers[place])
+        match self.answers.get(place) {
+            Some(&answer) => call::read(answer),
+            None => panic!("the list has no answer at place {place}"),
+        }
     }
 
     /// The answers to all calls that were handed over, in order. There are none where the whole list was refused.

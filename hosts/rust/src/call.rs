@@ -24,6 +24,14 @@ pub enum Decision {
     None,
 }
 
+/// What the reply to [`Batch::decide`](crate::Batch::decide) says.
+impl From<Reply> for Decision {
+    #[inline]
+    fn from(reply: Reply) -> Self {
+        reply.map_or(Decision::None, Decision::Variable)
+    }
+}
+
 /// A length as the 32 bits of a count. One that has no such count gets one that no length fits, since all limits are far below.
 #[inline]
 pub(crate) fn count(len: usize) -> u32 {

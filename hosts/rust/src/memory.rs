@@ -101,6 +101,13 @@ impl<T: Clone + Default> Array<'_, T> {
     }
 }
 
+/// A copy is the session's own.
+impl<T: Clone> Clone for Array<'_, T> {
+    fn clone(&self) -> Self {
+        Array::Own(self[..].into())
+    }
+}
+
 impl<T> Deref for Array<'_, T> {
     type Target = [T];
 
@@ -124,6 +131,7 @@ impl<T> DerefMut for Array<'_, T> {
 }
 
 /// The trail of a session.
+#[derive(Clone)]
 pub(crate) struct Trail<'a> {
     pub values: Array<'a, u8>,
     pub levels: Array<'a, u32>,
@@ -164,6 +172,7 @@ impl<'a> Trail<'a> {
 }
 
 /// The heap of a session.
+#[derive(Clone)]
 pub(crate) struct Heap<'a> {
     pub activity: Array<'a, f64>,
     pub heap: Array<'a, u32>,
@@ -189,6 +198,7 @@ impl Heap<'_> {
 }
 
 /// The move-to-front list of a session.
+#[derive(Clone)]
 pub(crate) struct List<'a> {
     pub next: Array<'a, u32>,
     pub prev: Array<'a, u32>,

@@ -33,7 +33,11 @@ pub enum Refusal {
     Decay = 12,
     /// The step would be above 1e200. In heap mode only.
     Step = 13,
-    /// Nothing from the place of search on is open, yet something ahead of it is. In list mode only.
+    /// Nothing from the place of search on is open, yet something ahead of it is. In list mode only: going back does not move that place.
+    ///
+    /// Heap mode has no such refusal. In list mode, until a later release, a caller lends the memory ([`Session::list_in`](crate::Session::list_in)), sets
+    /// `search` to `start` in what [`Session::list_state`](crate::Session::list_state) tells, and carries on by
+    /// [`Session::list_from`](crate::Session::list_from).
     Stuck = 14,
 }
 

@@ -17,6 +17,7 @@ pub enum Mode {
 }
 
 /// The chooser of either mode.
+#[derive(Clone)]
 enum Chooser<'a> {
     Heap(Heap<'a>),
     List(List<'a>),
@@ -86,6 +87,21 @@ macro_rules! enter {
 /// assert_eq!(session.trail(), [Lit::new(2, true)]);
 /// # Ok::<(), Refusal>(())
 /// ```
+///
+/// A clone is a snapshot: it has memory of its own, also where that of the session is lent. Lent memory counts as lent while a clone of its session lives.
+///
+/// ```
+/// use sigvort::{Decision, Session};
+///
+/// let mut session = Session::heap(2)?;
+/// session.bump(1)?;
+/// let mut snapshot = session.clone();
+/// assert_eq!(session.decide(true)?, Decision::Variable(1));
+/// assert_eq!(snapshot.trail(), []);
+/// assert_eq!(snapshot.decide(false)?, Decision::Variable(1));
+/// # Ok::<(), sigvort::Refusal>(())
+/// ```
+#[derive(Clone)]
 pub struct Session<'a> {
     n: u32,
     clauses: Clauses<'a>,
@@ -274,9 +290,10 @@ impl Session<'_> {
         self.done(call::switch_off(var))
     }
 
-    /// Chooses an open variable, opens a level and gives the variable its value there. Refused with [`Refusal::Stuck`].
+    /// Chooses an open variable, opens a level and gives the variable its value there. Refused in list mode with [`Refusal::Stuck`], where it
+    /// says what a caller can do then.
     pub fn decide(&mut self, polarity: bool) -> Result<Decision, Refusal> {
-        Ok(self.one(&[], call::decide(polarity))?.map_or(Decision::None, Decision::Variable))
+        self.one(&[], call::decide(polarity)).map(Decision::from)
     }
 
     /// Makes the literal true at the present level. The reason is a clause's number, or `None`. Refused with [`Refusal::Variable`], [`Refusal::Reason`] or

@@ -167,9 +167,18 @@ fn a_batch_is_used_again() {
 }
 
 #[test]
-#[should_panic]
+#[should_panic(expected = "the list has no answer at place 0")]
 fn a_call_that_was_not_handed_over_has_no_answer() {
     let mut batch = Batch::new();
     let place = batch.decide(true);
     let _ = batch.answer(place);
+}
+
+#[test]
+#[should_panic(expected = "the list has no answer at place 7")]
+fn a_place_that_the_list_has_not_has_no_answer() {
+    let mut batch = Batch::new();
+    batch.decide(true);
+    Session::heap(1).unwrap().batch(&mut batch).unwrap();
+    let _ = batch.answer(7);
 }

@@ -171,6 +171,41 @@ fn a_list_session_carries_on() {
 }
 
 #[test]
+fn a_list_session_that_is_stuck_searches_from_the_front() {
+    let (mut arrays, state) = list_in_use();
+    let mut session = Session::list_from(3, Clauses::new(), arrays.lend(state)).unwrap();
+    assert_eq!(session.decide(true), Ok(Decision::Variable(1)));
+    assert_eq!(session.decide(true), Err(Refusal::Stuck));
+    let mut state = session.list_state().unwrap();
+    state.search = state.start;
+    let mut session = Session::list_from(3, Clauses::new(), arrays.lend(state)).unwrap();
+    assert_eq!(session.decide(true), Ok(Decision::Variable(2)));
+    assert_eq!(session.decide(true), Ok(Decision::None));
+}
+
+#[test]
+fn a_clone_leaves_the_lent_arrays_alone() {
+    let (mut arrays, state) = heap_in_use();
+    let before = arrays.clone();
+    let session = Session::heap_from(3, Clauses::new(), arrays.lend(state)).unwrap();
+    let mut clone = session.clone();
+    assert_eq!(clone.decide(true), Ok(Decision::Variable(1)));
+    assert_eq!(clone.go_back(0), Ok(3));
+    assert_eq!(session.trail(), [pos(0), !pos(2)]);
+    assert_eq!(session.heap_state(), Some(state));
+    assert_eq!(arrays, before);
+
+    let (mut arrays, state) = list_in_use();
+    let before = arrays.clone();
+    let session = Session::list_from(3, Clauses::new(), arrays.lend(state)).unwrap();
+    let mut clone = session.clone();
+    assert_eq!(clone.group(&[1]), Ok(()));
+    assert_eq!(clone.list_state().unwrap().start, 1);
+    assert_eq!(session.list_state(), Some(state));
+    assert_eq!(arrays, before);
+}
+
+#[test]
 fn memory_that_holds_no_session_is_refused_and_stays_as_it_was() {
     let mut arrays = HeapArrays::new(2);
     let memory = arrays.lend(HeapState::default());
