@@ -13,11 +13,12 @@ use std::{
     env,
     ffi::{OsStr, OsString},
     fs::File,
-    io::{self, Read, Write},
+    io::{self, BufWriter, Read, Stdout, Write},
     process::ExitCode,
     time::Instant,
 };
 
+const HELPED: u8 = 0;
 const WRONG: u8 = 1;
 const MISUSED: u8 = 2;
 const SATISFIABLE: u8 = 10;
@@ -31,17 +32,20 @@ const CHOOSERS: [(&str, Solve); 2] = [
     ("reference", |formula| solve(formula, ReferenceHeap::new(formula.num_vars))),
 ];
 
-struct Arguments {
-    solve: Solve,
-    stats: bool,
-    file: OsString,
+/// What the arguments ask for.
+enum Asked {
+    Help,
+    Answer { solve: Solve, stats: bool, file: OsString },
 }
 
-fn arguments() -> Option<Arguments> {
+fn asked() -> Option<Asked> {
     let (mut solve, mut stats, mut file) = (CHOOSERS[0].1, false, None);
+    let mut options = true;
     let mut arguments = env::args_os().skip(1);
     while let Some(argument) = arguments.next() {
-        match argument.to_str() {
+        match argument.to_str().filter(|_| options) {
+            Some("--") => options = false,
+            Some("--help") => return Some(Asked::Help),
             Some("--chooser") => {
                 let name = arguments.next()?;
                 solve = CHOOSERS.iter().find(|chooser| name == chooser.0)?.1;
@@ -52,7 +56,17 @@ fn arguments() -> Option<Arguments> {
             _ => file = Some(argument),
         }
     }
-    Some(Arguments { solve, stats, file: file? })
+    Some(Asked::Answer { solve, stats, file: file? })
+}
+
+fn usage() -> String {
+    let names = CHOOSERS.map(|(name, _)| name).join("|");
+    format!("usage: solver [--help] [--chooser {names}] [--stats] [--] FILE, where - is standard input")
+}
+
+/// Tells a line on standard error. Where that can't be written, there is nobody to tell.
+fn tell(line: &str) {
+    let _ = writeln!(io::stderr(), "{line}");
 }
 
 /// Reads a formula that the choosers can take.
@@ -69,32 +83,35 @@ fn read(file: &OsStr) -> Result<Formula, String> {
     Ok(formula)
 }
 
-fn write(outcome: &Outcome) -> io::Result<()> {
-    let mut out = io::BufWriter::new(io::stdout());
-    dimacs::write(&mut out, outcome)?;
-    out.flush()
+/// Writes to standard output.
+fn print(write: impl FnOnce(&mut BufWriter<Stdout>) -> io::Result<()>) -> Result<(), String> {
+    let mut out = BufWriter::new(io::stdout());
+    write(&mut out).and_then(|()| out.flush()).map_err(|error| format!("the answer can't be written: {error}"))
 }
 
-fn run(arguments: &Arguments) -> Result<u8, String> {
-    let formula = read(&arguments.file).map_err(|what| format!("{}: {what}", arguments.file.display()))?;
+fn answer(solve: Solve, stats: bool, file: &OsStr) -> Result<u8, String> {
+    let formula = read(file).map_err(|what| format!("{}: {what}", file.display()))?;
     let start = Instant::now();
-    let (outcome, Stats { decisions, conflicts, propagations, lists }) = (arguments.solve)(&formula);
-    if arguments.stats {
-        let seconds = start.elapsed().as_secs_f64();
-        eprintln!("decisions {decisions}\nconflicts {conflicts}\npropagations {propagations}\nlists {lists}\nseconds {seconds:.6}");
+    let (outcome, Stats { decisions, conflicts, propagations, lists }) = solve(&formula);
+    let seconds = start.elapsed().as_secs_f64();
+    print(|out| dimacs::write(out, &outcome))?;
+    if stats {
+        tell(&format!("decisions {decisions}\nconflicts {conflicts}\npropagations {propagations}\nlists {lists}\nseconds {seconds:.6}"));
     }
-    write(&outcome).map_err(|error| format!("the answer can't be written: {error}"))?;
     Ok(if outcome == Outcome::Unsatisfiable { UNSATISFIABLE } else { SATISFIABLE })
 }
 
 fn main() -> ExitCode {
-    let Some(arguments) = arguments() else {
-        let names = CHOOSERS.map(|(name, _)| name).join("|");
-        eprintln!("usage: solver [--chooser {names}] [--stats] FILE, where - is standard input");
-        return MISUSED.into();
+    let status = match asked() {
+        Some(Asked::Help) => print(|out| writeln!(out, "{}", usage())).map(|()| HELPED),
+        Some(Asked::Answer { solve, stats, file }) => answer(solve, stats, &file),
+        None => {
+            tell(&usage());
+            Ok(MISUSED)
+        }
     };
-    let status = run(&arguments).unwrap_or_else(|what| {
-        eprintln!("solver: {what}");
+    let status = status.unwrap_or_else(|what| {
+        tell(&format!("solver: {what}"));
         WRONG
     });
     status.into()

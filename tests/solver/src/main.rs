@@ -165,7 +165,7 @@ fn refusals(solver: &Solver) -> Checked {
     ];
     let with_input =
         texts.iter().flat_map(|&(text, told)| ["vsids", "reference"].map(|chooser| (vec!["--chooser", chooser, "-"], text, 1, told)));
-    let usages: [&[&str]; 7] = [
+    let usages: [&[&str]; 9] = [
         &[],
         &["--stats"],
         &["--chooser"],
@@ -173,9 +173,11 @@ fn refusals(solver: &Solver) -> Checked {
         &["--chooser", "heap", "-"],
         &["--fast", "-"],
         &["-", "examples/van.cnf"],
+        &["--"],
+        &["--", "--stats", "-"],
     ];
     let misused = usages.map(|arguments| (arguments.to_vec(), many, 2, "usage: solver"));
-    let unreadable = ["nowhere/van.cnf", "examples"].map(|file| (vec![file], "", 1, file));
+    let unreadable = ["nowhere/van.cnf", "examples", "--stats"].map(|file| (vec!["--", file], "", 1, file));
     let mut count = 0;
     for (arguments, text, status, told) in with_input.chain(misused).chain(unreadable) {
         let output = solver.run(&arguments, text.as_bytes());
@@ -189,16 +191,51 @@ fn refusals(solver: &Solver) -> Checked {
     full_device(solver)
 }
 
-/// An answer that cannot be written.
+/// A device on which nothing can be written.
+fn full() -> Stdio {
+    fs::OpenOptions::new().write(true).open("/dev/full").expect("there is a full device").into()
+}
+
+/// What cannot be written: an answer is told, with status 1; without standard error, statuses and answers are as ever.
 fn full_device(solver: &Solver) -> Checked {
-    let full = fs::OpenOptions::new().write(true).open("/dev/full").expect("there is a full device");
-    let output =
-        Command::new(&solver.0).arg("examples/van.cnf").stdout(full).stderr(Stdio::piped()).output().expect("the solver can be run");
-    if output.status.code() == Some(1) && !output.stderr.is_empty() {
-        println!("a full device: told, with status 1");
-        return Ok(());
+    let run = |arguments: &[&str], out: Stdio, told: Stdio| {
+        Command::new(&solver.0).args(arguments).stdout(out).stderr(told).output().expect("the solver can be run")
+    };
+    for arguments in [&["examples/van.cnf"], &["--help"]] {
+        let output = run(arguments, full(), Stdio::piped());
+        if output.status.code() != Some(1) || !output.stderr.starts_with(b"solver: ") {
+            return Err(format!("{arguments:?} on a full device: {output:?}"));
+        }
     }
-    Err(format!("a full device: {output:?}"))
+    let answer = run(&["examples/van.cnf"], Stdio::piped(), Stdio::piped()).stdout;
+    let cases: [(&[&str], i32, &[u8]); 3] =
+        [(&["--stats", "examples/van.cnf"], 10, &answer), (&["nowhere/van.cnf"], 1, b""), (&[], 2, b"")];
+    for (arguments, status, said) in cases {
+        let output = run(arguments, Stdio::piped(), full());
+        if output.status.code() != Some(status) || output.stdout != said {
+            return Err(format!("{arguments:?} with standard error on a full device: {output:?}"));
+        }
+    }
+    println!("a full device: told, with status 1; as standard error it changes nothing");
+    Ok(())
+}
+
+/// The usage on request, and arguments behind the end of the options.
+fn options(solver: &Solver) -> Checked {
+    for arguments in [&["--help"][..], &["--stats", "--help", "-"]] {
+        let help = solver.run(arguments, b"");
+        if help.status.code() != Some(0) || !help.stdout.starts_with(b"usage: solver") || !help.stderr.is_empty() {
+            return Err(format!("{arguments:?} should print the usage, and does: {help:?}"));
+        }
+    }
+    for arguments in [&["-"][..], &["--", "-"], &["--chooser", "reference", "--", "-"]] {
+        let output = solver.run(arguments, b"p cnf 1 1\n-1 0\n");
+        if output.status.code() != Some(10) || output.stdout != b"s SATISFIABLE\nv -1 0\n" || !output.stderr.is_empty() {
+            return Err(format!("{arguments:?} should answer, and does: {output:?}"));
+        }
+    }
+    println!("the usage on request, and the end of the options: as they should be");
+    Ok(())
 }
 
 /// What README shows: a command in a block of its own, then a block with what it prints.
@@ -227,6 +264,7 @@ fn check_all(solver: &Solver, checking: &Solver) -> Checked {
     van(solver)?;
     edges(solver, checking)?;
     refusals(solver)?;
+    options(solver)?;
     shown(solver)
 }
 
