@@ -1,12 +1,14 @@
-/* The proved option chooser, as a C program calls it. Link with libsigvort.a, which `hosts/library` writes.
+/* The proved option chooser, as a C program calls it. Link with libsigvort.a, which `hosts/library` writes for x86-64 Linux; it needs memset and nothing
+   else.
 
    Two ways in. sigvort_run takes a call sheet as text and answers it as text. The entries sigvort_heap_* and sigvort_list_* take lists of calls as
    numbers, on memory that the caller lends: a session. Most callers need only the small functions below the entries, which take a struct for that
-   memory. docs/NATIVE.md is the guide, docs/SHEET.md says what the calls do.
+   memory. docs/NATIVE.md is the guide, docs/SHEET.md has an example of each call.
 
    Of every function here: nothing is kept between calls and nothing is allocated, so calls on different memory may run at the same time. A pointer
    is aligned, good for its whole length, and not null, even for a length of 0; only the functions that take a struct allow null for a slice without
-   places. What is written overlaps nothing else that is lent. C99, C11 and C++. */
+   places. What is written overlaps nothing else that is lent. The floating-point environment is the default one, rounding to nearest with subnormals, so
+   no part of the program is built with -ffast-math. C99, C11 and C++. */
 #ifndef SIGVORT_H
 #define SIGVORT_H
 
@@ -198,7 +200,7 @@ uint32_t sigvort_list_fresh(
    writes      the eight arrays, the six small states, and all of answers
    returns     0, or 4, 5, 6, 7; 5 also where calls_len is no multiple of 3, or answers_len is not two for each three of calls_len
 
-   A call takes some 32 KB of stack, less where no group has more than 512 variables. */
+   A call takes some 32 KB of stack. */
 uint32_t sigvort_list_calls(
     uint32_t n, uint32_t literals, uint32_t clauses,
     const uint32_t *lits, size_t lits_len, const uint32_t *ends, size_t ends_len,
@@ -489,7 +491,8 @@ static inline uint32_t sigvort_list_one(struct sigvort_list *s, uint32_t letter,
     return status != 0 ? status : answer[0];
 }
 
-/* Chooses an open variable, opens a level and gives it the polarity, 0 or 1. The variable is SIGVORT_NONE if nothing is open. */
+/* Chooses an open variable, opens a level and gives it the polarity, 0 or 1. The variable is SIGVORT_NONE if nothing is open. After SIGVORT_STUCK the caller
+   may set search to start and decide again; docs/NATIVE.md says what is proved then. */
 static inline uint32_t sigvort_list_decide(struct sigvort_list *s, uint32_t polarity, uint32_t *variable)
 {
     return sigvort_list_one(s, SIGVORT_DECIDE, polarity, 0, variable);

@@ -152,6 +152,7 @@ static void heap_calls(void)
     EXPECT(sigvort_heap_enqueue(&s, sigvort_code(UINT32_MAX, 1), SIGVORT_NONE), SIGVORT_NO_VARIABLE);
     EXPECT(sigvort_heap_one(&s, SIGVORT_GROUP, 0, 0, &reply), 0);
     EXPECT(sigvort_heap_one(&s, SIGVORT_GROUP, 0, 1, &reply), SIGVORT_BAD_FORM);
+    EXPECT(sigvort_heap_one(&s, SIGVORT_GROUP, 1, 0, &reply), SIGVORT_BAD_FORM);
     EXPECT(sigvort_heap_do(&s, group, 2, call, SIGVORT_CALL_WORDS, answer, SIGVORT_ANSWER_WORDS), 0);
     EXPECT(answer[0] == 0 && answer[1] == SIGVORT_NONE, 1);
     EXPECT(sigvort_heap_one(&s, SIGVORT_DECAY, 0, 1, &reply), SIGVORT_BAD_FORM);
@@ -181,8 +182,11 @@ static void list_calls(void)
     EXPECT(sigvort_list_enqueue(&s, sigvort_code(3, 1), SIGVORT_NONE), 0);
     EXPECT(s.values[3], 1);
     EXPECT(sigvort_list_decide(&s, 0, &reply), SIGVORT_STUCK);
+    s.search = s.start;
+    EXPECT(sigvort_list_decide(&s, 0, &reply), 0);
+    EXPECT(reply == 1 && s.search == 2, 1);
     EXPECT(sigvort_list_go_back(&s, 0, &reply), 0);
-    EXPECT(reply, 2);
+    EXPECT(reply == 3 && s.search == 2, 1);
     EXPECT(sigvort_list_learn_unit(&s, sigvort_code(3, 0)), 0);
     EXPECT(sigvort_list_learn_unit(&s, sigvort_code(3, 0)), SIGVORT_ASSIGNED);
     EXPECT(sigvort_list_one(&s, SIGVORT_BUMP, 0, 0, &reply), 0);
