@@ -7,7 +7,8 @@ use Rattle.formula.specs.Clauses.{noFallAt, endsOk, listOk, varBelow, varsBelow
 use Rattle.formula.specs.Checks.{differ, newAt, noDuplicates, checkClauseInvariant, checkEach, checkFormulaInvariant, listRefusal, checkFormulaInvariantCall}
 use Rattle.activity.specs.Step.{upright, within}
 use Rattle.trail.specs.Trail.{freshTrail, enqAssignment, enqDecision, backstep, backsteps, closeLevels, rewind, backtrackTo, undone, backtrackSafe}
-use Rattle.trail_check.specs.Check.{countsOk, valuesOk, reasonsOk, unusedOk, placesOk, heldOk, openedOk, levelsOk, trailOk}
+use Rattle.lit.specs.Unused.{unusedOk}
+use Rattle.trail_check.specs.Check.{countsOk, valuesOk, reasonsOk, placesOk, heldOk, openedOk, levelsOk, trailOk}
 use Rattle.heap.specs.Heap as heap
 use Rattle.vsids.specs.Vsids as vsids
 use Rattle.vsids.specs.Check.{memberOk, placeOk, positionOk, variableOk, checkHeap}

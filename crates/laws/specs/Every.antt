@@ -1,8 +1,8 @@
 -- A test of every place below a bound: what it says of each place, and what a loop needs that stops at the first failure.
 -- Assumes nothing.
-use mathlib.Core.Path.{_≡_, refl}
+use mathlib.Core.Path.{_≡_, refl, sym, _∙_}
 use mathlib.Core.Logic.{by-cases}
-use mathlib.Core.Bool.{Bool, true, false, _&&_}
+use mathlib.Core.Bool.{Bool, true, false, _&&_, and-true}
 use Prim.Native.Nat.{ℕ, zero, suc, _+_, _≤_, _<_}
 use native.Mathlib.Decide.{ℕ-discrete}
 use native.Mathlib.Numerals.{add-one}
@@ -53,3 +53,12 @@ module _ {p : ℕ → Bool} {n : ℕ} where
 
   pub passed-fails : {i : ℕ} → Passed p n i → i < n → p i ≡ false → every p n ≡ false
   passed-fails {i} h b e = every-not p n i b e
+
+-- what a loop needs that tests every place and stops at none: the flag behind a place that passes, and behind one that does not
+module _ (p : ℕ → Bool) (i : ℕ) where
+  pub flag-stays : {was is : Bool} → was ≡ every p i → is ≡ was → p i ≡ true → is ≡ every p (i + 1)
+  unfolding every
+  flag-stays e f t = rw (add-one i, t, and-true) (f ∙ e)
+
+  pub flag-falls : {is : Bool} → is ≡ false → p i ≡ false → is ≡ every p (i + 1)
+  flag-falls f t = f ∙ sym (every-not p (i + 1) i (omega arith) t)

@@ -1,8 +1,9 @@
 // Literals and values, from lit.rs and assignments.rs, and the numbers of document 01.
 ghost use mathlib.Core.Path.{_≡_};
-ghost use Prim.Native.Nat.{_+_, _*_, _/_, _<_};
+ghost use Prim.Native.Nat.{_+_, _*_, _/_, _<_, _≤_};
 ghost use lib.ListN.{length};
 ghost use Rattle.lit.specs.Lits as spec;
+ghost use Rattle.lit.specs.Unused as unused;
 
 pub const NONE: u32 = 4294967295;
 
@@ -168,4 +169,20 @@ pub fn is_assigned(values: &[u8], v: u32) -> bool
     ensures { λ r. ⌜ r ≡ spec.isAssigned (now (values .entry)) v ⌝ }
 {
     values[v as usize] < UNASSIGNED
+}
+
+// Whether every place from `used` on holds NONE.
+pub fn unused_ok(a: &[u32], used: u32) -> bool
+    requires { ⌜ used ≤ length (now a) ⌝ }
+    ensures { λ r. ⌜ r ≡ unused.unusedOk (now (a .entry)) used ⌝ }
+{
+    let mut ok = true;
+    let mut i = used as usize;
+    while i < a.len() {
+        if a[i] != NONE {
+            ok = false;
+        }
+        i += 1;
+    }
+    ok
 }

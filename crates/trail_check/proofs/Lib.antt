@@ -1,4 +1,4 @@
 -- Lemmas that the proofs of the check's functions cite.
 pub mod Marks
-pub mod Climb
+pub mod Rows
 pub mod Reasons

@@ -9,7 +9,8 @@ use lib.ListN.{length, getD}
 use borrow.Author.Tests.{le-ltb}
 use Rattle.laws.specs.Every.{every-at, every-all}
 use Rattle.lit.specs.Numbers.{NONE}
-use Rattle.trail_check.specs.Check.{reasonOk, reasonsOk, noneAt, unusedOk}
+use Rattle.lit.specs.Unused.{noneAt, unusedOk}
+use Rattle.trail_check.specs.Check.{reasonOk, reasonsOk}
 
 -- where every reason is NONE, every reason is good
 pub no-reasons : (m : ℕ) (values reasons : List ℕ) → length reasons ≡ length values → unusedOk reasons 0 ≡ true → reasonsOk m values reasons ≡ true

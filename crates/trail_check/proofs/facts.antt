@@ -1,3 +1,2 @@
 -- Lemmas that the proofs of the tests cite.
-pub mod Flags
 pub mod Least

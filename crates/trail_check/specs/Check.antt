@@ -1,7 +1,7 @@
 -- The trail's check as tests, a test for each fact or two. `Checked` in trail_check shows that they say what `GoodTrail` says.
-use Prim.Native.Nat.{ℕ, _+_, _-_, _≤_, _<_}
+use Prim.Native.Nat.{ℕ, _-_, _≤_, _<_}
 use mathlib.Core.Path.{_≡_}
-use mathlib.Core.Bool.{Bool, false, not, _&&_, _||_, cond}
+use mathlib.Core.Bool.{Bool, false, not, _&&_, _||_}
 use mathlib.Core.List.{List}
 use lib.ListN.{length, getD}
 use lib.Dec.{leb, ltb, eqb}
@@ -9,6 +9,7 @@ use Rattle.laws.specs.Every.{every}
 use Rattle.laws.specs.Some.{some}
 use Rattle.lit.specs.Numbers.{NONE, unassigned}
 use Rattle.lit.specs.Lits.{index, isAssigned, litSat}
+use Rattle.lit.specs.Unused.{unusedOk}
 use Rattle.trail.specs.Trail.{Trail}
 use Rattle.trail.specs.Good.{notAbove}
 
@@ -29,13 +30,6 @@ reasonOk m values reasons v = eqb (getD reasons v 0) NONE || (ltb (getD reasons 
 
 unfoldable pub reasonsOk : ℕ → List ℕ → List ℕ → Bool
 reasonsOk m values reasons = every (reasonOk m values reasons) (length values)
-
--- every place from `used` on holds NONE
-abbrev pub noneAt : List ℕ → ℕ → ℕ → Bool
-noneAt l used i = ltb i used || eqb (getD l i 0) NONE
-
-unfoldable pub unusedOk : List ℕ → ℕ → Bool
-unusedOk l used = every (noneAt l used) (length l)
 
 -- every opened level lies below the trail length and above the one before it
 abbrev pub levelOk : List ℕ → ℕ → ℕ → Bool
@@ -77,9 +71,12 @@ coveredAt values marks v = leb unassigned (getD values v 0) || getD marks v fals
 unfoldable pub coveredOk : List ℕ → List Bool → Bool
 coveredOk values marks = every (coveredAt values marks) (length values)
 
--- the level of place i from that of the place before: one more where a level was opened at i
-abbrev pub climb : List ℕ → ℕ → ℕ → ℕ → ℕ
-climb opened level l i = cond (ltb l level && eqb (getD opened l 0) i) (l + 1) l
+-- the trail variables from place `from` up to `to` have level l
+abbrev pub inRow : List ℕ → List ℕ → ℕ → ℕ → ℕ → Bool
+inRow levels trail from l i = ltb i from || eqb (getD levels (index (getD trail i 0)) 0) l
+
+unfoldable pub rowOk : List ℕ → List ℕ → ℕ → ℕ → ℕ → Bool
+rowOk levels trail from to l = every (inRow levels trail from l) to
 
 -- every trail variable has the level of its place
 abbrev pub levelIs : List ℕ → List ℕ → List ℕ → ℕ → ℕ → Bool

@@ -18,7 +18,8 @@ use Rattle.lit.specs.Lits.{index, polarity, litSat}
 use Rattle.trail.specs.Trail.{Trail}
 use Rattle.trail.specs.Memory.{Sized}
 use Rattle.trail.specs.Good.{IsReason, notAbove, GoodTrail}
-use Rattle.trail_check.specs.Check.{countsOk, valueOk, valuesOk, reasonOk, reasonsOk, noneAt, unusedOk, levelOk, openedOk, stands, placeOk, placesOk, heldAt, heldOk, levelIs, levelsOk, trailOk}
+use Rattle.lit.specs.Unused.{noneAt, unusedOk}
+use Rattle.trail_check.specs.Check.{countsOk, valueOk, valuesOk, reasonOk, reasonsOk, levelOk, openedOk, stands, placeOk, placesOk, heldAt, heldOk, levelIs, levelsOk, trailOk}
 
 module _ (values : List ℕ) where
   pub values-right : (valuesOk values ≡ true) ↔ ((v : ℕ) → v < length values → getD values v 0 ≤ unassigned)

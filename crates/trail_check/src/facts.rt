@@ -39,22 +39,6 @@ pub fn reason_ok(m: u32, values: &[u8], reasons: &[u32], v: usize) -> bool
     reasons[v] == NONE || (reasons[v] < m && values[v] < UNASSIGNED)
 }
 
-// Whether every place from `used` on holds NONE.
-pub fn unused_ok(a: &[u32], used: u32) -> bool
-    requires { ⌜ used ≤ length (now a) ⌝ }
-    ensures { λ r. ⌜ r ≡ spec.unusedOk (now (a .entry)) used ⌝ }
-{
-    let mut ok = true;
-    let mut i = used as usize;
-    while i < a.len() {
-        if a[i] != NONE {
-            ok = false;
-        }
-        i += 1;
-    }
-    ok
-}
-
 // Whether the opened level lies below the trail length and above the one before it.
 pub fn level_ok(opened: &[u32], len: u32, k: usize) -> bool
     requires { ⌜ k < length (now opened) ⌝ }
@@ -79,17 +63,4 @@ pub fn covered(values: &[u8], marks: &[bool], v: usize) -> bool
 {
     let least = if marks[v] { 0 } else { UNASSIGNED };
     values[v] >= least
-}
-
-// The level of place i, where l is that of the place before: one more if a level was opened at i.
-pub fn level_at(opened: &[u32], level: u32, l: u32, i: u32) -> u32
-    requires { ⌜ (level ≤ length (now opened)) × (l ≤ level) ⌝ }
-    ensures { λ r. ⌜ r ≡ spec.climb (now (opened .entry)) level l i ⌝ }
-{
-    if l < level {
-        if opened[l as usize] == i {
-            return l + 1;
-        }
-    }
-    l
 }

@@ -5,17 +5,17 @@ ghost use Prim.Native.Nat.{ℕ, _≤_, _<_};
 ghost use lib.ListN.{length, getD};
 ghost use Rattle.lit.specs.Numbers as number;
 ghost use Rattle.lit.specs.Lits as lits;
+ghost use Rattle.lit.specs.Unused.{unusedOk};
 ghost use Rattle.trail_check.specs.Check as spec;
 ghost use Rattle.trail_check.specs.Check.{Marked};
 ghost use Rattle.trail.specs.Memory.{trailOf, Lengths};
 use crate::facts::counts_ok;
 use crate::facts::covered;
-use crate::facts::level_at;
 use crate::facts::level_ok;
 use crate::facts::literal_ok;
 use crate::facts::reason_ok;
-use crate::facts::unused_ok;
 use crate::facts::values_ok;
+use lit::unused_ok;
 use trail::TrailState;
 
 pub mod facts;
@@ -119,17 +119,14 @@ fn check_places(values: &[u8], trail: &[u32], len: u32) -> bool
     check_marked(values, trail, len, &mut marks)
 }
 
-// Whether every trail variable has the level of its place.
-fn levels_ok(levels: &[u32], trail: &[u32], opened: &[u32], level: u32, len: u32) -> bool
-    requires { ⌜ (len ≤ length (now trail)) × (level ≤ length (now opened)) ⌝ }
-    requires { ⌜ ((i : ℕ) → i < len → lits.index (getD (now trail) i 0) < length (now levels)) ⌝ }
-    requires { ⌜ spec.openedOk (now opened) level len ≡ true ⌝ }
-    ensures { λ r. ⌜ r ≡ spec.levelsOk (now (levels .entry)) (now (trail .entry)) (now (opened .entry)) level len ⌝ }
+// Whether the trail variables from place `from` up to `to` have level l.
+fn row_ok(levels: &[u32], trail: &[u32], from: u32, to: u32, l: u32) -> bool
+    requires { ⌜ to ≤ length (now trail) ⌝ }
+    requires { ⌜ ((i : ℕ) → i < to → lits.index (getD (now trail) i 0) < length (now levels)) ⌝ }
+    ensures { λ r. ⌜ r ≡ spec.rowOk (now (levels .entry)) (now (trail .entry)) from to l ⌝ }
 {
-    let mut l = 0;
-    let mut i = 0;
-    while i < len {
-        l = level_at(opened, level, l, i);
+    let mut i = from;
+    while i < to {
         let v = lit::index(trail[i as usize]) as usize;
         if levels[v] != l {
             return false;
@@ -137,6 +134,26 @@ fn levels_ok(levels: &[u32], trail: &[u32], opened: &[u32], level: u32, len: u32
         i += 1;
     }
     true
+}
+
+// Whether every trail variable has the level of its place: row by row, from where a level was opened up to the next.
+fn levels_ok(levels: &[u32], trail: &[u32], opened: &[u32], level: u32, len: u32) -> bool
+    requires { ⌜ (len ≤ length (now trail)) × (level ≤ length (now opened)) ⌝ }
+    requires { ⌜ ((i : ℕ) → i < len → lits.index (getD (now trail) i 0) < length (now levels)) ⌝ }
+    requires { ⌜ spec.openedOk (now opened) level len ≡ true ⌝ }
+    ensures { λ r. ⌜ r ≡ spec.levelsOk (now (levels .entry)) (now (trail .entry)) (now (opened .entry)) level len ⌝ }
+{
+    let mut from = 0;
+    let mut l = 0;
+    while l < level {
+        let to = opened[l as usize];
+        if !row_ok(levels, trail, from, to, l) {
+            return false;
+        }
+        from = to;
+        l += 1;
+    }
+    row_ok(levels, trail, from, len, level)
 }
 
 // Whether every variable has a good value and a good reason. Where no variable has a reason, every reason is good.
@@ -158,7 +175,7 @@ fn check_variables(m: u32, values: &[u8], reasons: &[u32]) -> bool
 // Whether the places of the trail and of the opened levels that are not in use hold NONE.
 fn check_unused(trail: &[u32], len: u32, opened: &[u32], level: u32) -> bool
     requires { ⌜ (len ≤ length (now trail)) × (level ≤ length (now opened)) ⌝ }
-    ensures { λ r. ⌜ r ≡ (spec.unusedOk (now (trail .entry)) len && spec.unusedOk (now (opened .entry)) level) ⌝ }
+    ensures { λ r. ⌜ r ≡ (unusedOk (now (trail .entry)) len && unusedOk (now (opened .entry)) level) ⌝ }
 {
     if !unused_ok(trail, len) {
         return false;

@@ -6,7 +6,8 @@ use borrow.Author.Needs.{needs}
 use borrow.Author.Tests.{not-true, not-false}
 use lib.ListN.{length}
 use Rattle.laws.specs.Tests.{and-left}
-use Rattle.trail_check.specs.Check.{countsOk, valuesOk, reasonsOk, unusedOk, placesOk, heldOk, trailOk}
+use Rattle.lit.specs.Unused.{unusedOk}
+use Rattle.trail_check.specs.Check.{countsOk, valuesOk, reasonsOk, placesOk, heldOk, trailOk}
 use Rattle.trail_check.specs.Checked.{Counts, counts-right, places-right}
 use Rattle.trail_check.proofs.check_trail.Statement.{statement}
 use Rattle.trail_check.proofs.check_trail.Tie as tie

@@ -6,9 +6,8 @@ use native.Mathlib.Omega.{arith}
 use borrow.Author.Needs.{needs}
 use borrow.Author.Tests.{not-true, not-false}
 use lib.ListN.{length}
-use Rattle.laws.specs.Every.{every}
+use Rattle.laws.specs.Every.{every, flag-stays, flag-falls}
 use Rattle.trail_check.specs.Check.{coveredAt, coveredOk}
-use Rattle.trail_check.proofs.facts.Flags.{flag-stays, flag-falls}
 use Rattle.trail_check.proofs.covered_ok.Statement.{statement}
 use Rattle.trail_check.proofs.covered_ok.Tie as tie
 

@@ -6,9 +6,8 @@ use native.Mathlib.Omega.{arith}
 use borrow.Author.Needs.{needs}
 use borrow.Author.Tests.{le-leb, lt-leb}
 use lib.ListN.{length}
-use Rattle.laws.specs.Every.{every}
+use Rattle.laws.specs.Every.{every, flag-stays, flag-falls}
 use Rattle.trail_check.specs.Check.{valueOk, valuesOk}
-use Rattle.trail_check.proofs.facts.Flags.{flag-stays, flag-falls}
 use Rattle.trail_check.proofs.facts.values_ok.Statement.{statement}
 use Rattle.trail_check.proofs.facts.values_ok.Tie as tie
 
