@@ -6,6 +6,7 @@ pub mod Each
 pub mod Every
 pub mod Some
 pub mod Pigeonhole
+pub mod Ranks
 pub mod Prefix
 pub mod InPlace
 pub mod Parts

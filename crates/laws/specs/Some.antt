@@ -46,6 +46,15 @@ module _ (p : ℕ → Bool) where
   unfolding some
   some-more i = rw add-one
 
+  -- a place that passes counts, another does not
+  pub count-one : (i : ℕ) → p i ≡ true → count p (i + 1) ≡ count p i + 1
+  unfolding count
+  count-one i e = rw (add-one i, e) (omega arith)
+
+  pub count-none : (i : ℕ) → p i ≡ false → count p (i + 1) ≡ count p i
+  unfolding count
+  count-none i e = rw (add-one i, e)
+
   -- where all pass, all count; where none passes from l on, those below l count
   pub count-all : (n : ℕ) → ((i : ℕ) → i < n → p i ≡ true) → count p n ≡ n
   unfolding count

@@ -1,3 +1,2 @@
 -- Laws that only this crate's proofs cite.
 pub mod Branches
-pub mod Full

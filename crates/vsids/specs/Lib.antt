@@ -7,3 +7,4 @@ pub mod Kept
 pub mod Choice
 pub mod Check
 pub mod Untouched
+pub mod Outside

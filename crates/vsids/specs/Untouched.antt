@@ -2,15 +2,16 @@
 use mathlib.Core.Path.{_≡_, refl, _∙_}
 use mathlib.Core.Bool.{Bool, true, false, _&&_}
 use mathlib.Core.List.{List}
-use Prim.Native.Nat.{ℕ, _<_}
+use Prim.Native.Nat.{ℕ, _≤_, _<_}
 use native.Mathlib.Decide.{ℕ-discrete}
 use native.Mathlib.Omega.{arith}
 use lib.Dec.{T, eqb}
 use lib.Ieee.{Float, nan, le, ofBits}
 use lib.ListN.{length, getD}
-use borrow.Author.Tests.{eqb-true, lt-ltb, eq-eqb}
+use borrow.Author.Tests.{eqb-true, lt-ltb, eq-eqb, ne-eqb}
 use Rattle.laws.specs.Tests.{and-left, and-right}
 use Rattle.laws.specs.Every.{every, every-at, every-all}
+use Rattle.lit.specs.Numbers.{NONE, maxVars}
 use Rattle.activity.specs.Doubles.{zeroActivity, maxActivity}
 use Rattle.activity.specs.Step.{within, upright}
 use Rattle.activity.specs.Upright.{Upright, finite, infinite, number, le-inf, le-trans, lt-of-le, cross→le}
@@ -18,7 +19,7 @@ use Rattle.activity.specs.Bounds.{Within, within-true, true-within, zero-within
 use Rattle.heap.specs.Heap.{comesFirst, parent, rises}
 use Rattle.heap.specs.Walks.{rises-by, top-stays}
 use Rattle.vsids.specs.Vsids.{Vsids, places, before}
-use Rattle.vsids.specs.Check.{memberOk, placeOk, activityOk}
+use Rattle.vsids.specs.Check.{memberOk, placeOk, activityOk, positionOk}
 
 -- an activity is at most hi, without sign and no NaN
 abbrev pub activityWithin : Float → List Float → ℕ → Bool
@@ -53,7 +54,7 @@ module _ (activity : List Float) where
 
 -- what the test says of a heap whose slices have one length
 module _ (h : Vsids) (heap-long : length (h .heap) ≡ length (h .activity)) (indices-long : length (h .indices) ≡ length (h .activity)) (e : untouched (h .len) (h .activity) (h .heap) (h .indices) ≡ true) where
-  pub untouched-full : h .len ≡ length (h .activity)
+  untouched-full : h .len ≡ length (h .activity)
   unfolding untouched
   untouched-full = eqb-true (h .len) _ (and-left (eqb (h .len) (length (h .activity))) _ e)
 
@@ -84,3 +85,8 @@ module _ (h : Vsids) (heap-long : length (h .heap) ≡ length (h .activity)) (in
 
   pub untouched-activities : every (activityOk (h .activity)) (length (h .activity)) ≡ true
   untouched-activities = every-all _ _ (λ v b. true-within (zero-activity (zero v b)))
+
+  pub untouched-positions : (values : List ℕ) → length (h .activity) ≤ maxVars → every (positionOk values h) (length (h .activity)) ≡ true
+  unfolding positionOk
+  untouched-positions values small = every-all _ _ (λ v b.
+      rw (own v b .1, ne-eqb v NONE (omega arith), lt-ltb v (h .len) (omega (arith, untouched-full)), eq-eqb (getD (h .heap) v 0) v (own v b .0)))

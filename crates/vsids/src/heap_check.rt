@@ -1,10 +1,11 @@
 // The check of a lent heap of the heap chooser.
 use crate::VsidsState;
-use crate::is_open;
 use activity::MAX_ACTIVITY;
 use activity::ZERO_ACTIVITY;
 use lit::NONE;
 use lit::OFF;
+use lit::ON;
+use lit::UNASSIGNED;
 ghost use mathlib.Core.Path.{_≡_};
 ghost use Prim.Native.Nat.{ℕ, _<_, _≤_};
 ghost use lib.ListN.{length, getD};
@@ -14,19 +15,17 @@ ghost use Rattle.heap.specs.Heap.{placesOf, comesFirst};
 ghost use Rattle.vsids.specs.Vsids.{vsidsOf};
 ghost use Rattle.vsids.specs.Check as check;
 ghost use Rattle.vsids.specs.Untouched as untouched;
+ghost use Rattle.vsids.specs.Outside as outside;
 ghost use Rattle.vsids.specs.Check.{SameLengths};
 
-// Whether place i is good: in use it holds a variable whose position it is, and which does not come before its parent; else NONE.
-fn place_ok(activity: &[f64], heap: &[u32], indices: &[u32], len: u32, i: usize) -> bool
+// Whether place i, which is in use, is good: it holds a variable whose position it is, and which does not come before its parent.
+fn member_ok(activity: &[f64], heap: &[u32], indices: &[u32], i: usize) -> bool
     requires { ⌜ (length (now activity) ≤ maxVars) × ((length (now heap) ≡ length (now activity)) × (length (now indices) ≡ length (now activity))) ⌝ }
     requires { ⌜ i < length (now heap) ⌝ }
-    requires { ⌜ ((j : ℕ) → j < i → j < len → getD (now heap) j 0 < length (now activity)) ⌝ }
-    ensures { λ r. ⌜ r ≡ check.placeOk (length (now (activity .entry))) len (comesFirst (now (activity .entry))) (placesOf (now (heap .entry)) (now (indices .entry))) i ⌝ }
+    requires { ⌜ ((j : ℕ) → j < i → getD (now heap) j 0 < length (now activity)) ⌝ }
+    ensures { λ r. ⌜ r ≡ check.memberOk (length (now (activity .entry))) (comesFirst (now (activity .entry))) (placesOf (now (heap .entry)) (now (indices .entry))) i ⌝ }
 {
     let x = heap[i];
-    if len as usize <= i {
-        return x == NONE;
-    }
     if activity.len() <= x as usize {
         return false;
     }
@@ -36,19 +35,32 @@ fn place_ok(activity: &[f64], heap: &[u32], indices: &[u32], len: u32, i: usize)
     !heap::rises(activity, heap, x, i)
 }
 
-// Whether every place is good.
-fn places_ok(activity: &[f64], heap: &[u32], indices: &[u32], len: u32) -> bool
+// Whether every place in use is good.
+fn members_ok(activity: &[f64], heap: &[u32], indices: &[u32], len: u32) -> bool
     requires { ⌜ (length (now activity) ≤ maxVars) × ((length (now heap) ≡ length (now activity)) × (length (now indices) ≡ length (now activity))) ⌝ }
-    ensures { λ r. ⌜ r ≡ every (check.placeOk (length (now (activity .entry))) len (comesFirst (now (activity .entry))) (placesOf (now (heap .entry)) (now (indices .entry)))) (length (now (activity .entry))) ⌝ }
+    requires { ⌜ len ≤ length (now activity) ⌝ }
+    ensures { λ r. ⌜ r ≡ every (check.memberOk (length (now (activity .entry))) (comesFirst (now (activity .entry))) (placesOf (now (heap .entry)) (now (indices .entry)))) len ⌝ }
 {
     let mut i = 0;
-    while i < heap.len() {
-        if !place_ok(activity, heap, indices, len, i) {
+    while i < len as usize {
+        if !member_ok(activity, heap, indices, i) {
             return false;
         }
         i += 1;
     }
     true
+}
+
+// Whether every place is good: those in use, and the others hold NONE.
+fn places_ok(activity: &[f64], heap: &[u32], indices: &[u32], len: u32) -> bool
+    requires { ⌜ (length (now activity) ≤ maxVars) × ((length (now heap) ≡ length (now activity)) × (length (now indices) ≡ length (now activity))) ⌝ }
+    requires { ⌜ len ≤ length (now activity) ⌝ }
+    ensures { λ r. ⌜ r ≡ every (check.placeOk (length (now (activity .entry))) len (comesFirst (now (activity .entry))) (placesOf (now (heap .entry)) (now (indices .entry)))) (length (now (activity .entry))) ⌝ }
+{
+    if !members_ok(activity, heap, indices, len) {
+        return false;
+    }
+    lit::unused_ok(heap, len)
 }
 
 // Whether every switch is on or off.
@@ -114,56 +126,49 @@ fn untouched(activity: &[f64], heap: &[u32], indices: &[u32], len: u32) -> bool
     in_order(indices)
 }
 
-// Whether a variable's position is that of a member, or NONE where the variable is not open.
-fn position_ok(
-    values: &[u8],
-    activity: &[f64],
-    heap: &[u32],
-    indices: &[u32],
-    decision: &[u8],
-    s: VsidsState,
-    v: usize,
-) -> bool
-    requires { ⌜ SameLengths (length (now activity)) (now values) (now heap) (now indices) (now decision) ⌝ }
-    requires { ⌜ (s .len ≤ length (now activity)) × (v < length (now activity)) ⌝ }
-    ensures { λ r. ⌜ r ≡ check.positionOk (now (values .entry)) (vsidsOf (now (activity .entry)) (now (heap .entry)) (now (indices .entry)) (now (decision .entry)) s) v ⌝ }
+// No value of a byte reaches it.
+const ABOVE_BYTES: u32 = 256;
+
+// Whether the variable has a position, or is not open: unless it is off or has one, its value is to lie below 2.
+fn settled(values: &[u8], indices: &[u32], decision: &[u8], v: usize) -> bool
+    requires { ⌜ (v < length (now values)) × ((v < length (now indices)) × (v < length (now decision))) ⌝ }
+    ensures { λ r. ⌜ r ≡ outside.settledAt (now (values .entry)) (now (indices .entry)) (now (decision .entry)) v ⌝ }
 {
-    let p = indices[v];
-    let len = s.len;
-    if p == NONE {
-        return !is_open(values, decision, v as u32);
-    }
-    if len <= p {
-        return false;
-    }
-    heap[p as usize] == v as u32
+    let outside = if indices[v] == NONE {
+        UNASSIGNED as u32
+    } else {
+        ABOVE_BYTES
+    };
+    let bar = if decision[v] == ON {
+        outside
+    } else {
+        ABOVE_BYTES
+    };
+    (values[v] as u32) < bar
 }
 
-// Whether every variable's position is so.
-fn positions_ok(
-    values: &[u8],
-    activity: &[f64],
-    heap: &[u32],
-    indices: &[u32],
-    decision: &[u8],
-    s: VsidsState,
-) -> bool
-    requires { ⌜ SameLengths (length (now activity)) (now values) (now heap) (now indices) (now decision) ⌝ }
-    requires { ⌜ s .len ≤ length (now activity) ⌝ }
-    ensures { λ r. ⌜ r ≡ every (check.positionOk (now (values .entry)) (vsidsOf (now (activity .entry)) (now (heap .entry)) (now (indices .entry)) (now (decision .entry)) s)) (length (now (activity .entry))) ⌝ }
+// Whether as many variables have no position as are no members, and none of them is open.
+fn outside_ok(values: &[u8], indices: &[u32], decision: &[u8], len: u32) -> bool
+    requires { ⌜ (length (now indices) ≤ maxVars) × ((length (now values) ≡ length (now indices)) × (length (now decision) ≡ length (now indices))) ⌝ }
+    ensures { λ r. ⌜ r ≡ outside.outsideOk (now (values .entry)) (now (indices .entry)) (now (decision .entry)) len ⌝ }
 {
+    let mut outside = 0u32;
+    let mut open = 0u32;
     let mut v = 0;
-    while v < activity.len() {
-        if !position_ok(values, activity, heap, indices, decision, s, v) {
-            return false;
+    while v < indices.len() {
+        if indices[v] == NONE {
+            outside += 1;
+        }
+        if !settled(values, indices, decision, v) {
+            open += 1;
         }
         v += 1;
     }
-    true
+    open == 0 && outside as usize + len as usize == indices.len()
 }
 
-// Whether lent memory is a good heap for these values. With a good step and good switches an untouched heap is good; where every variable
-// is a member, good places leave no position to be tested.
+// Whether lent memory is a good heap for these values. With a good step and good switches an untouched heap is good. Of another the members
+// are found at their positions, so it is left to see that nobody else has one.
 pub fn check_heap(
     values: &[u8],
     activity: &[f64],
@@ -195,8 +200,5 @@ pub fn check_heap(
     if !activities_within(MAX_ACTIVITY, activity) {
         return false;
     }
-    if len as usize == activity.len() {
-        return true;
-    }
-    positions_ok(values, activity, heap, indices, decision, s)
+    outside_ok(values, indices, decision, len)
 }
