@@ -164,8 +164,10 @@ fn sheet_lines(
     without_clauses(sheet, out, positions, heap, n, p)
 }
 
-// A short sheet has at most so many bytes. A literal takes two at least, and so does a clause line.
+// A short sheet has at most so many bytes, and a tiny one. A literal takes two at least, and so does a clause line.
 const SHORT: usize = 1024;
+
+const TINY: usize = 128;
 
 // The same on a short sheet, which has this way to itself, with none of the long slices for clauses.
 fn short_lines(
@@ -180,6 +182,11 @@ fn short_lines(
     ensures { λ r. ⌜ Ended (now (sheet .entry)) p (reading (modeOf heap) n [] []) (now (out .entry)) r (now (out .exit)) ⌝ }
 {
     if next_is_clause(sheet, p) {
+        if sheet.len() <= TINY {
+            let mut lits = [0u32; TINY / 2];
+            let mut ends = [0u32; TINY / 2];
+            return clauses_with(sheet, out, positions, heap, n, &mut lits, &mut ends, p);
+        }
         let mut lits = [0u32; SHORT / 2];
         let mut ends = [0u32; SHORT / 2];
         return clauses_with(sheet, out, positions, heap, n, &mut lits, &mut ends, p);
@@ -187,7 +194,9 @@ fn short_lines(
     without_clauses(sheet, out, positions, heap, n, p)
 }
 
-// How many variables the shorter array of positions has room for.
+// How many variables the shorter arrays of positions have room for.
+const LEAST: u32 = 128;
+
 const FEW: u32 = 384;
 
 // The lines behind the first, on positions set up for them: few for few variables on a short sheet.
@@ -195,6 +204,10 @@ fn own_positions(sheet: &[u8], out: &mut [u8], heap: bool, n: u32, p: Place) -> 
     requires { ⌜ Room (now sheet) p (now out) × (n ≤ number.maxVars) ⌝ }
     ensures { λ r. ⌜ Ended (now (sheet .entry)) p (reading (modeOf heap) n [] []) (now (out .entry)) r (now (out .exit)) ⌝ }
 {
+    if n <= LEAST && sheet.len() <= SHORT {
+        let mut least = [NONE; LEAST as usize];
+        return short_lines(sheet, out, &mut least, heap, n, p);
+    }
     if n <= FEW && sheet.len() <= SHORT {
         let mut few = [NONE; FEW as usize];
         return short_lines(sheet, out, &mut few, heap, n, p);

@@ -266,6 +266,8 @@ pub fn read_call(line: &[u8]) -> Read
 
 // Lengths of scratch for a group: each variable takes two bytes of its line at least, so a short line needs little.
 // `MANY` is enough for any group.
+pub const LEAST: usize = 8;
+
 pub const FEW: usize = 64;
 
 pub const SOME: usize = 512;

@@ -2,6 +2,9 @@
 use Prim.Native.Nat.{ℕ, _+_}
 use Rattle.lit.specs.Numbers.{maxVars}
 
+abbrev pub least : ℕ
+least = 128
+
 abbrev pub few : ℕ
 few = 384
 

@@ -133,12 +133,54 @@ fn in_arrays(
 }
 
 // How many variables the shorter arrays of a session have room for: setting up long ones costs more than a short run.
+const LEAST: u32 = 128;
+
 pub const FEW: u32 = 384;
 
 const MANY: u32 = 1344;
 
 // And the longest, for as many as there may be: a cache line more, so that the arrays do not all begin at the same place of the cache.
 const ALL: u32 = MAX_VARS + 16;
+
+// Does the lines of a session of the fewest variables.
+fn in_least(
+    sheet: &[u8],
+    out: &mut [u8],
+    positions: &mut [u32],
+    n: u32,
+    lits: &[u32],
+    ends: &[u32],
+    p: Place,
+) -> usize
+    requires { ⌜ Room (now sheet) p (now out) × (n ≤ size.least) × GoodClauses n (now lits) (now ends) × (n ≤ length (now positions)) ⌝ }
+    ensures { λ r. ⌜ Ended (now (sheet .entry)) p (spec.opened vsids n (now (lits .entry)) (now (ends .entry))) (now (out .entry)) r (now (out .exit)) ⌝ }
+{
+    let mut values = [UNASSIGNED; LEAST as usize];
+    let mut levels = [NONE; LEAST as usize];
+    let mut reasons = [NONE; LEAST as usize];
+    let mut trail = [NONE; LEAST as usize];
+    let mut opened = [NONE; LEAST as usize];
+    let mut activity = [ZERO_ACTIVITY; LEAST as usize];
+    let mut heap = [NONE; LEAST as usize];
+    let mut decision = [ON; LEAST as usize];
+    in_arrays(
+        sheet,
+        out,
+        positions,
+        n,
+        lits,
+        ends,
+        &mut values,
+        &mut levels,
+        &mut reasons,
+        &mut trail,
+        &mut opened,
+        &mut activity,
+        &mut heap,
+        &mut decision,
+        p,
+    )
+}
 
 // Does the lines from a place on in a session of few variables, and gives the place behind their answers. Without a line no session is made.
 // The positions are the heap's.
@@ -156,6 +198,9 @@ pub fn answer_few(
 {
     if place.left == 0 {
         return place.at;
+    }
+    if n <= LEAST {
+        return in_least(sheet, out, positions, n, lits, ends, place);
     }
     let mut values = [UNASSIGNED; FEW as usize];
     let mut levels = [NONE; FEW as usize];

@@ -176,6 +176,8 @@ fn group_within(
 }
 
 // How many variables the scratch of a group has room for: setting up long arrays costs more than a short group. `MANY` is enough for any.
+const LEAST: usize = 8;
+
 const FEW: usize = 64;
 
 const SOME: usize = 512;
@@ -199,6 +201,11 @@ pub fn group_unaided(
         let after = with (now (next .exit)) (now (prev .exit)) (now (ts .exit)) (r .state) in
         Answers n m lits (book.group (now (vars .entry))) before r after) ⌝ }
 {
+    if vars.len() <= LEAST {
+        let mut stamps = [0u64; LEAST];
+        let mut order = [NONE; LEAST];
+        return group_within(n, next, prev, ts, s, vars, &mut stamps, &mut order);
+    }
     if vars.len() <= FEW {
         let mut stamps = [0u64; FEW];
         let mut order = [NONE; FEW];

@@ -12,6 +12,7 @@ ghost use Rattle.forms.specs.Read.{Fits, groupOn};
 ghost use Rattle.book.specs.Read.{called};
 use forms::Count;
 use forms::FEW;
+use forms::LEAST;
 use forms::MANY;
 use forms::SOME;
 use list_session::ListAnswer;
@@ -57,6 +58,10 @@ pub fn group_line(
         let after = sessionOf n m lits values levels reasons trail opened (now (next .exit)) (now (prev .exit)) (now (ts .exit)) (r .state) in
         Answered (called n m (listOps n lits) before (groupOn (now (line .entry)))) before (r .status) (r .reply) after) ⌝ }
 {
+    if line.len() <= 2 * LEAST {
+        let mut vars = [NONE; LEAST];
+        return group_with(line, n, next, prev, ts, s, &mut vars);
+    }
     if line.len() <= 2 * FEW {
         let mut vars = [NONE; FEW];
         return group_with(line, n, next, prev, ts, s, &mut vars);

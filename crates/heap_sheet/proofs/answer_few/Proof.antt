@@ -14,13 +14,17 @@ returns : tie.Need-returns
 returns c = let s = c .before .before .before .before .before .before .before in nothing-left (opened vsids (s .args .n) (s .args .lits .now) (s .args .ends .now)) (s .pre .0) (c .if1 .taken)
 
 in-arrays-requires : tie.Need-in-arrays-requires
-in-arrays-requires c κs = let s = c .before .before .before .before .before .before .before .before .before .before .before .before .before .before .before .before .before in ((s .pre .0, omega (arith, s .pre .1), s .pre .2, s .pre .3), blank few (omega (arith, s .pre .1)))
+in-arrays-requires c κs = let s = c .before .before .before .before .before .before .before .before .before .before .before .before .before .before .before .before .before .before in ((s .pre .0, omega (arith, s .pre .1), s .pre .2, s .pre .3), blank few (omega (arith, s .pre .1)))
 
 pub answer-few-spec : {M : Type 1} → statement M
 answer-few-spec =
     tie.close
     (tie.spec
     returns
+    (λ c κs. search needs)
+    (λ c. search needs)
+    (λ c. search needs)
+    (λ c. search needs)
     (λ c. refl)
     (λ c. refl)
     (λ c. refl)
