@@ -1,4 +1,5 @@
--- Term 3 proved: facts of books, the trail's memory by the book, going back, each call, the claim, and the claim over another clause list.
+-- Term 3 proved: facts of books, the trail's memory by the book, going back, each call, the claim, the claim over another clause list,
+-- and over a save.
 pub mod Books
 pub mod Memory
 pub mod Going
@@ -6,3 +7,4 @@ pub mod Steps
 pub mod Term3
 pub mod Letter
 pub mod OtherList
+pub mod Saved

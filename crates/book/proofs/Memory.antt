@@ -50,7 +50,7 @@ in-range {l = l} {k = k} s = omega (arith, s .count, ap length (s .inUse), lengt
 
 -- ---- levels of assigned variables: a value and a level are stored together
 
-levels-set : (vs ls : List ℕ) (v p l : ℕ) → assignedLevels (set vs v p) (set ls v l) ≡ set (assignedLevels vs ls) v (cond (ltb p unassigned) l NONE)
+pub levels-set : (vs ls : List ℕ) (v p l : ℕ) → assignedLevels (set vs v p) (set ls v l) ≡ set (assignedLevels vs ls) v (cond (ltb p unassigned) l NONE)
 unfolding assignedLevels
 levels-set [] ls v p l = refl
 levels-set (x ∷ xs) [] zero p l = refl
@@ -58,7 +58,7 @@ levels-set (x ∷ xs) [] (suc v) p l = refl
 levels-set (x ∷ xs) (y ∷ ys) zero p l = refl
 levels-set (x ∷ xs) (y ∷ ys) (suc v) p l = ap {B = List ℕ} (λ zs. cond (ltb x unassigned) y NONE ∷ zs) (levels-set xs ys v p l)
 
-levels-unset : (vs ls : List ℕ) (v : ℕ) → assignedLevels (set vs v unassigned) ls ≡ set (assignedLevels vs ls) v NONE
+pub levels-unset : (vs ls : List ℕ) (v : ℕ) → assignedLevels (set vs v unassigned) ls ≡ set (assignedLevels vs ls) v NONE
 levels-unset vs ls v =
     ap (λ (x : List ℕ). assignedLevels (set vs v unassigned) x) (sym (set-getD ls v 0)) ∙ levels-set vs ls v unassigned (getD ls v 0)
 

@@ -55,5 +55,5 @@ replies = bytes (
 
 -- the buffer has 24 bytes for each of eight lines
 pub worked-sheet : ran sheet 192 ≡ done none replies
-unfolding definitions bytes clauseFits begin step run text.splitFrom text.butLast text.occurs text.all text.decimal text.plain text.number text.digitsBy forms.kindOf forms.numbers forms.is forms.callIn forms.beginsClause forms.codesIn forms.modeIn forms.firstIn answerLine callsOf logged clauseLines listed clauseAnswers behindFirst answered ran
+unfolding definitions bytes clauseFits begin step run text.splitFrom text.butLast text.occurs text.all text.decimal text.plain text.numberUpTo text.digitsBy forms.kindOf forms.numbers forms.is forms.callIn forms.beginsClause forms.codesIn forms.modeIn forms.firstIn answerLine callsOf logged clauseLines listed clauseAnswers behindFirst answered ran
 worked-sheet = refl

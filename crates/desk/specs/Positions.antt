@@ -14,7 +14,7 @@ use Rattle.laws.specs.Tests.{and-both}
 use Rattle.lit.specs.Numbers.{maxVars}
 use Rattle.book.specs.Session.{Result, done, refuse}
 use Rattle.forms.specs.Forms.{Mode, vsids, vmtf, Opening, firstIn}
-use Rattle.desk.specs.Memory.{modeOf}
+use Rattle.sheet.specs.Opening.{modeOf}
 
 -- how many positions a session over n variables needs
 abbrev pub needed : Mode → ℕ → ℕ

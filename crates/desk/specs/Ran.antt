@@ -11,12 +11,10 @@ use Rattle.laws.specs.Tests.{true-or-false}
 use Rattle.lit.specs.Numbers.{NONE, maxSheet, answerRoom, longSheet, shortBuffer}
 use Rattle.book.specs.Session.{Result, done, refuse, leaves, need}
 use Rattle.forms.specs.Text.{newline, lines, occurs, digits, written}
-use Rattle.forms.specs.TextLaws.{occurs-length, lines-end, lines-length, digits-one}
+use Rattle.forms.specs.TextLaws.{occurs-length, lines-end, lines-length, decimals-one}
 use Rattle.sheet.specs.Sheet.{answered, ran, result}
-use Rattle.sheet.specs.Writing.{Wrote}
+use Rattle.forms.specs.Written.{Wrote}
 use Rattle.sheet.specs.Bounds.{answered-short}
-use Rattle.sheet.specs.Running.{Room}
-use Rattle.desk.specs.Opening.{atFirst}
 use Rattle.desk.specs.Positions.{used, usedOn, SameFrom, untouched}
 
 -- what the host gets and the buffer are those of a run that comes to x
@@ -47,15 +45,6 @@ module _ (sheet out lent : List ℕ) where
       pub ran-none : occurs newline sheet ≡ 0 → Ran sheet out lent 0 out lent
       unfolding answered written
       ran-none empty = ran-answers (rw (lines-end sheet empty) (record { buffer = refl; place = refl }), untouched)
-
-      pub start-room : Room sheet (atFirst (occurs newline sheet)) out
-      start-room = record {
-        short = short;
-        inside = omega arith;
-        lines-left = refl;
-        numbered = omega (arith, occurs-length newline sheet);
-        fits = omega (arith, room);
-      }
 
 -- a refusal alone on a line, and how many bytes that takes
 abbrev refusalLine : ℕ → List ℕ
@@ -89,7 +78,7 @@ module _ (sheet : List ℕ) where
 
 -- a refusal's line takes two bytes
 refusal-long : (k : ℕ) → k ≤ shortBuffer → length (refusalLine k) ≡ refusalRoom
-refusal-long k small = rw (digits-one k (omega arith)) refl
+refusal-long k small = rw (decimals-one 8 k (omega arith)) refl
 
 -- with room for it, all that is printed has room
 pub printed-fits : (sheet : List ℕ) {room : ℕ} → refusalRoom ≤ room → result (printed room (ran sheet room)) ≤ room
@@ -124,5 +113,5 @@ module _ (sheet out : List ℕ) {r : ℕ} {out′ : List ℕ} (g : Gave (ran she
       (λ short fits g. absurd (omega (arith, g .0, many, few-bytes sheet short)))
       (λ k small g.
       let e : NONE - r ≡ k = omega (arith, g .0) in
-      rw (refusal-long k small, le-leb refusalRoom (length out) two, e, digits-one k (omega arith), g .1) (refl, refl))
+      rw (refusal-long k small, le-leb refusalRoom (length out) two, e, decimals-one 8 k (omega arith), g .1) (refl, refl))
       g

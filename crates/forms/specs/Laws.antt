@@ -12,8 +12,9 @@ use lib.Dec.{eqb}
 use lib.ListN.{length, take, drop}
 use lib.Seq.{take-all}
 use Rattle.laws.specs.Tests.{true-or-false, and-left, and-right, and-true, and-false, not-true}
+use Rattle.lit.specs.Numbers.{NONE}
 use Rattle.forms.specs.Letters.{vsidsText, vmtfText, dash, digitZero}
-use Rattle.forms.specs.Text.{tab, find, fields, all, isDigit, isHex, plain, number, pattern}
+use Rattle.forms.specs.Text.{tab, find, fields, all, isDigit, isHex, plain, numberUpTo, number, pattern}
 use Rattle.forms.specs.TextLaws.{find-length, split-found, split-last}
 use Rattle.forms.specs.Forms.{given, alone, one, two, numbers, is, reasonIn, modeIn}
 
@@ -77,9 +78,9 @@ plain-digits (b ∷ (c ∷ bs)) h =
     (λ f. rw f)
 
 -- what reads a field takes no tab
-pub number-tab : (bs : List ℕ) → find tab bs < length bs → number bs ≡ none
-unfolding number
-number-tab bs l = rw (plain-digits bs (all-not isDigit tab bs refl l))
+pub number-tab : (top : ℕ) (bs : List ℕ) → find tab bs < length bs → numberUpTo top bs ≡ none
+unfolding numberUpTo
+number-tab top bs l = rw (plain-digits bs (all-not isDigit tab bs refl l))
 
 pub pattern-tab : (bs : List ℕ) → find tab bs < length bs → pattern bs ≡ none
 unfolding pattern
@@ -98,7 +99,7 @@ is-tab bs cs h l = not-true (is bs cs) (λ e. let m : find tab cs < length cs = 
 
 pub reason-tab : (bs : List ℕ) → find tab bs < length bs → reasonIn bs ≡ none
 unfolding reasonIn find
-reason-tab bs l = rw (is-tab bs (dash ∷ []) (omega arith) l, number-tab bs l)
+reason-tab bs l = rw (is-tab bs (dash ∷ []) (omega arith) l, number-tab NONE bs l)
 
 pub mode-tab : (bs : List ℕ) → find tab bs < length bs → modeIn bs ≡ none
 unfolding modeIn find

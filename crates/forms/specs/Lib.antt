@@ -13,6 +13,7 @@ pub mod Text
 pub mod TextRead
 pub mod Reading
 pub mod TextLaws
+pub mod Written
 pub mod Spelling
 pub mod Words
 pub mod Pieces

@@ -1,26 +1,25 @@
 -- Reading bytes from the front: what is left after i bytes still decides. The laws that the loops cite. Assumes nothing.
 use Prim.Native.Nat.{ℕ, zero, suc, _+_, _*_, _-_, _%_, _^_, _≤_, _<_}
-use mathlib.Core.Path.{_≡_, refl, sym, _∙_}
+use mathlib.Core.Path.{_≡_, refl, sym, ap, _∙_}
 use mathlib.Core.Logic.{by-cases}
 use mathlib.Core.Bool.{true, false, cond, not, _&&_, false≢true}
 use mathlib.Core.Option.{Option, none, some}
 use mathlib.Core.List.{List, [], _∷_}
-use native.Mathlib.Decide.{ℕ-discrete}
+use native.Mathlib.Decide.{ℕ-discrete, decLt}
 use native.Mathlib.Omega.{arith}
 use native.Mathlib.Numerals.{add-one}
 use native.Mathlib.Nat.{pow-suc, pow-le-pow-right}
 use borrow.Author.Tests.{eq-eqb, ne-eqb, le-leb, lt-leb, leb-true, lt-ltb, le-ltb}
-use lib.Dec.{leb, T}
+use lib.Dec.{eqb, leb, T}
 use lib.Ieee.{Float, nan, inf, fin, binary64, ofBits, div, isNan, nanBits}
 use lib.Ieee.Bits.{nanBits-is, nanBits-above}
 use lib.ListN.{length, getD, take, drop, drop-of-length-le}
 use lib.Seq.{drop-drop}
-use Rattle.laws.specs.Tests.{and-true, and-false, and-left, and-right, not-true, not-false}
+use Rattle.laws.specs.Tests.{true-or-false, and-true, and-false, and-left, and-right, not-true, not-false}
 use Rattle.laws.specs.Choices.{or-cases}
 use Rattle.laws.specs.Parts.{drop-next}
-use Rattle.lit.specs.Numbers.{NONE}
 use Rattle.forms.specs.Letters.{digitZero, digitNine, digitA, digitF}
-use Rattle.forms.specs.Text.{find, occurs, all, isDigit, decimal, plain, number, isHex, hexDigit, hexadecimal, pattern}
+use Rattle.forms.specs.Text.{tab, find, occurs, all, isDigit, decimal, plain, numberUpTo, isHex, hexDigit, hexadecimal, pattern}
 
 -- what a search finds, counted from here
 module _ (b : ℕ) (l : List ℕ) (i : ℕ) where
@@ -69,8 +68,8 @@ occurs-between b l i j h =
     rw (sym d) (occurs-parts b (j - i) (drop i l))
 
 -- the number that the digits left give behind v
-unfoldable pub numberFrom : ℕ → List ℕ → Option ℕ
-numberFrom v bs = cond (all isDigit bs && leb (decimal v bs) NONE) (some (decimal v bs)) none
+unfoldable pub numberFrom : ℕ → ℕ → List ℕ → Option ℕ
+numberFrom top v bs = cond (all isDigit bs && leb (decimal v bs) top) (some (decimal v bs)) none
 
 -- `decimal` only grows as digits are read
 pub decimal-grows : (v : ℕ) (bs : List ℕ) → v ≤ decimal v bs
@@ -79,27 +78,28 @@ decimal-grows v [] = omega arith
 decimal-grows v (b ∷ bs) = omega (arith, decimal-grows (v * 10 + (b - digitZero)) bs)
 
 -- the next byte: a digit, or none
-module _ (v : ℕ) (l : List ℕ) (i : ℕ) (h : i < length l) where
-  pub number-next : digitZero ≤ getD l i 0 → getD l i 0 ≤ digitNine → numberFrom v (drop i l) ≡ numberFrom (v * 10 + (getD l i 0 - digitZero)) (drop (i + 1) l)
+module _ (top v : ℕ) (l : List ℕ) (i : ℕ) (h : i < length l) where
+  pub number-next : digitZero ≤ getD l i 0 → getD l i 0 ≤ digitNine → numberFrom top v (drop i l) ≡ numberFrom top (v * 10 + (getD l i 0 - digitZero)) (drop (i + 1) l)
   unfolding numberFrom all decimal
   number-next low high = rw (drop-next l i h, le-leb digitZero (getD l i 0) low, le-leb (getD l i 0) digitNine high)
 
-  pub number-low : getD l i 0 < digitZero → numberFrom v (drop i l) ≡ none
+  pub number-low : getD l i 0 < digitZero → numberFrom top v (drop i l) ≡ none
   unfolding numberFrom all
   number-low low = rw (drop-next l i h, lt-leb digitZero (getD l i 0) low)
 
-  pub number-high : digitNine < getD l i 0 → numberFrom v (drop i l) ≡ none
+  pub number-high : digitNine < getD l i 0 → numberFrom top v (drop i l) ≡ none
   unfolding numberFrom all
   number-high high = rw (drop-next l i h, lt-leb (getD l i 0) digitNine high, and-false (leb digitZero (getD l i 0)))
 
--- so a part above the greatest number means that the whole is
-pub number-over : (v : ℕ) (bs : List ℕ) → NONE < v → numberFrom v bs ≡ none
-unfolding numberFrom
-number-over v bs h = let o : NONE < decimal v bs = omega (arith, decimal-grows v bs) in rw (lt-leb (decimal v bs) NONE o, and-false (all isDigit bs))
+module _ (top : ℕ) where
+  -- so a part above the greatest number means that the whole is
+  pub number-over : (v : ℕ) (bs : List ℕ) → top < v → numberFrom top v bs ≡ none
+  unfolding numberFrom
+  number-over v bs h = let o : top < decimal v bs = omega (arith, decimal-grows v bs) in rw (lt-leb (decimal v bs) top o, and-false (all isDigit bs))
 
-pub number-end : (v : ℕ) (l : List ℕ) (i : ℕ) → length l ≤ i → v ≤ NONE → numberFrom v (drop i l) ≡ some v
-unfolding numberFrom all decimal
-number-end v l i e h = rw (drop-of-length-le l e, le-leb v NONE h)
+  pub number-end : (v : ℕ) (l : List ℕ) (i : ℕ) → length l ≤ i → v ≤ top → numberFrom top v (drop i l) ≡ some v
+  unfolding numberFrom all decimal
+  number-end v l i e h = rw (drop-of-length-le l e, le-leb v top h)
 
 -- the whole number where no zero leads
 pub plain-starts : (bs : List ℕ) → 0 < length bs → (getD bs 0 0 ≡ digitZero → 1 < length bs → ⊥) → plain bs ≡ all isDigit bs
@@ -108,26 +108,77 @@ plain-starts [] l z = absurd (omega arith)
 plain-starts (b ∷ []) l z = rw (and-true (isDigit b))
 plain-starts (b ∷ (c ∷ bs)) l z = rw (ne-eqb b digitZero (λ e. z e (omega arith)), and-true (isDigit b))
 
-pub number-starts : (bs : List ℕ) → 0 < length bs → (getD bs 0 0 ≡ digitZero → 1 < length bs → ⊥) → number bs ≡ numberFrom 0 bs
-unfolding number numberFrom
-number-starts bs l z = rw (plain-starts bs l z)
+module _ (top : ℕ) where
+  pub number-starts : (bs : List ℕ) → 0 < length bs → (getD bs 0 0 ≡ digitZero → 1 < length bs → ⊥) → numberUpTo top bs ≡ numberFrom top 0 bs
+  unfolding numberUpTo numberFrom
+  number-starts bs l z = rw (plain-starts bs l z)
 
-pub number-empty : (bs : List ℕ) → length bs ≡ 0 → number bs ≡ none
-unfolding number plain
-number-empty [] e = refl
-number-empty (b ∷ bs) e = absurd (omega arith)
+  pub number-empty : (bs : List ℕ) → length bs ≡ 0 → numberUpTo top bs ≡ none
+  unfolding numberUpTo plain
+  number-empty [] e = refl
+  number-empty (b ∷ bs) e = absurd (omega arith)
 
-pub number-zero : (bs : List ℕ) → getD bs 0 0 ≡ digitZero → 1 < length bs → number bs ≡ none
-unfolding number plain
-number-zero [] e h = absurd (omega arith)
-number-zero (b ∷ []) e h = absurd (omega arith)
-number-zero (b ∷ (c ∷ bs)) e h = rw (eq-eqb b digitZero e, and-false (isDigit b))
+  pub number-zero : (bs : List ℕ) → getD bs 0 0 ≡ digitZero → 1 < length bs → numberUpTo top bs ≡ none
+  unfolding numberUpTo plain
+  number-zero [] e h = absurd (omega arith)
+  number-zero (b ∷ []) e h = absurd (omega arith)
+  number-zero (b ∷ (c ∷ bs)) e h = rw (eq-eqb b digitZero e, and-false (isDigit b))
 
--- no digits that give a number, so none at all
-pub digits-none : (bs : List ℕ) → numberFrom 0 bs ≡ none → number bs ≡ none
-digits-none [] e = number-empty [] refl
-digits-none (b ∷ []) e = number-starts (b ∷ []) (omega arith) (λ z l. omega arith) ∙ e
-digits-none (b ∷ (c ∷ bs)) e = by-cases (ℕ-discrete b digitZero) (λ z. number-zero (b ∷ (c ∷ bs)) z (omega arith)) (λ z. number-starts (b ∷ (c ∷ bs)) (omega arith) (λ w l. z w) ∙ e)
+  -- no digits that give a number, so none at all
+  pub digits-none : (bs : List ℕ) → numberFrom top 0 bs ≡ none → numberUpTo top bs ≡ none
+  digits-none [] e = number-empty [] refl
+  digits-none (b ∷ []) e = number-starts (b ∷ []) (omega arith) (λ z l. omega arith) ∙ e
+  digits-none (b ∷ (c ∷ bs)) e = by-cases (ℕ-discrete b digitZero) (λ z. number-zero (b ∷ (c ∷ bs)) z (omega arith)) (λ z. number-starts (b ∷ (c ∷ bs)) (omega arith) (λ w l. z w) ∙ e)
+
+-- the value of a byte as a decimal digit, and 10 where it is none
+abbrev pub digitValue : ℕ → ℕ
+digitValue b = cond (isDigit b) (b - digitZero) 10
+
+-- how many digits stand in front, and these
+unfoldable pub digitRun : List ℕ → ℕ
+digitRun [] = 0
+digitRun (b ∷ bs) = cond (isDigit b) (suc (digitRun bs)) 0
+
+abbrev pub run : List ℕ → List ℕ
+run bs = take (digitRun bs) bs
+
+module _ (b : ℕ) where
+  pub digit-low : digitZero ≤ b → b ≤ digitNine → digitValue b ≡ b - digitZero
+  digit-low l h = rw (le-leb digitZero b l, le-leb b digitNine h)
+
+  pub digit-other : (digitZero ≤ b → b ≤ digitNine → ⊥) → digitValue b ≡ 10
+  digit-other n =
+      let none : isDigit b ≡ false = not-true (isDigit b) (λ e. n (leb-true digitZero b (and-left (leb digitZero b) (leb b digitNine) e)) (leb-true b digitNine (and-right (leb digitZero b) (leb b digitNine) e))) in
+      rw none
+
+  pub digit-is : (digitValue b < 10) → isDigit b ≡ true
+  digit-is h = not-false (isDigit b) (λ e. (let m : 10 < 10 = rw e at h in omega arith))
+
+  pub digit-none : (digitValue b < 10 → ⊥) → isDigit b ≡ false
+  digit-none n = not-true (isDigit b) (λ e. n (rw e (omega (arith, leb-true b digitNine (and-right (leb digitZero b) (leb b digitNine) e)))))
+
+-- the next byte of the digits in front: one more, or none
+module _ (l : List ℕ) (i : ℕ) where
+  pub run-next : i < length l → isDigit (getD l i 0) ≡ true → digitRun (drop i l) ≡ suc (digitRun (drop (i + 1) l))
+  unfolding digitRun
+  run-next h e = rw (drop-next l i h, e)
+
+  pub run-digit : i < length l → isDigit (getD l i 0) ≡ true → run (drop i l) ≡ getD l i 0 ∷ run (drop (i + 1) l)
+  unfolding digitRun
+  run-digit h e = rw (drop-next l i h, e)
+
+  pub run-here : i < length l → isDigit (getD l i 0) ≡ false → digitRun (drop i l) ≡ 0
+  unfolding digitRun
+  run-here h e = rw (drop-next l i h, e)
+
+  pub run-none : length l ≤ i → digitRun (drop i l) ≡ 0
+  unfolding digitRun
+  run-none h = rw (drop-of-length-le l h)
+
+pub run-length : (bs : List ℕ) → digitRun bs ≤ length bs
+unfolding digitRun
+run-length [] = omega arith
+run-length (b ∷ bs) = true-or-false (isDigit b) (λ t. rw t (omega (arith, run-length bs))) (λ f. rw f (omega arith))
 
 -- the field from the front up to the first such byte
 abbrev pub upTo : ℕ → List ℕ → List ℕ
@@ -137,6 +188,44 @@ module _ (b : ℕ) (l : List ℕ) (i : ℕ) where
   pub field-next : i < length l → (getD l i 0 ≡ b → ⊥) → upTo b (drop i l) ≡ getD l i 0 ∷ upTo b (drop (i + 1) l)
   unfolding find
   field-next h n = rw (drop-next l i h, ne-eqb (getD l i 0) b n)
+
+-- the digits in front, up to a tab or the end, are the field; and where something else stands behind them, it is no number
+run-field : (bs : List ℕ) → (digitRun bs < length bs → getD bs (digitRun bs) 0 ≡ tab) → find tab bs ≡ digitRun bs
+unfolding digitRun find
+run-field [] h = refl
+run-field (b ∷ bs) h =
+    true-or-false (isDigit b)
+    (λ t.
+    let other : eqb b tab ≡ false = ne-eqb b tab (λ e. omega (arith, leb-true digitZero b (and-left (leb digitZero b) (leb b digitNine) t))) in
+    let q : suc (digitRun bs) < suc (length bs) → getD bs (digitRun bs) 0 ≡ tab = rw t at h in
+    rw (t, other) (ap suc (run-field bs (λ l. q (omega arith)))))
+    (λ f. let q : 0 < suc (length bs) → b ≡ tab = rw f at h in rw (f, eq-eqb b tab (q (omega arith))))
+
+all-run : (bs : List ℕ) → digitRun bs < length bs → (getD bs (digitRun bs) 0 ≡ tab → ⊥) → all isDigit (upTo tab bs) ≡ false
+unfolding digitRun find all
+all-run [] h n = absurd (omega arith)
+all-run (b ∷ bs) h n =
+    true-or-false (isDigit b)
+    (λ t.
+    let other : eqb b tab ≡ false = ne-eqb b tab (λ e. omega (arith, leb-true digitZero b (and-left (leb digitZero b) (leb b digitNine) t))) in
+    let l : suc (digitRun bs) < suc (length bs) = rw t at h in
+    let m : getD bs (digitRun bs) 0 ≡ tab → ⊥ = rw t at n in
+    rw (other, t) (all-run bs (omega arith) m))
+    (λ f. let m : b ≡ tab → ⊥ = rw f at n in rw (ne-eqb b tab m, f))
+
+module _ (top : ℕ) (bs : List ℕ) where
+  pub field-run : (digitRun bs < length bs → getD bs (digitRun bs) 0 ≡ tab) → (find tab bs ≡ digitRun bs) × (numberUpTo top (upTo tab bs) ≡ numberUpTo top (run bs))
+  field-run h = let e = run-field bs h in (e, rw e)
+
+  pub field-other : digitRun bs < length bs → (getD bs (digitRun bs) 0 ≡ tab → ⊥) → numberUpTo top (upTo tab bs) ≡ none
+  unfolding numberUpTo
+  field-other h n = digits-none top (upTo tab bs) (unfold numberFrom in rw (all-run bs h n))
+
+  pub field-none : numberUpTo top (run bs) ≡ none → numberUpTo top (upTo tab bs) ≡ none
+  field-none e =
+      by-cases (decLt (digitRun bs) (length bs))
+      (λ l. by-cases (ℕ-discrete (getD bs (digitRun bs) 0) tab) (λ t. field-run (λ m. t) .1 ∙ e) (λ n. field-other l n))
+      (λ n. field-run (λ l. absurd (n l)) .1 ∙ e)
 
 -- the value of a byte as a hexadecimal digit, and 16 where it is none
 abbrev pub hexValue : ℕ → ℕ

@@ -7,7 +7,7 @@ use native.Mathlib.Omega.{arith}
 use lib.Dec.{eqb}
 use lib.ListN.{length, drop, length-append}
 use Rattle.laws.specs.Tests.{true-or-false}
-use Rattle.forms.specs.Text.{tab, splitFrom, number, plain}
+use Rattle.forms.specs.Text.{tab, splitFrom, numberUpTo, number, plain}
 use Rattle.forms.specs.Forms.{given, numbers}
 use Rattle.forms.specs.Behind.{behind}
 
@@ -19,7 +19,7 @@ record Split (f : List ℕ) (rest : Option (List ℕ)) (ns : List ℕ) : Type 0 
   pub count : length ns ≡ 1 + length more
 
 parts : (f : List ℕ) (rest : Option (List ℕ)) {ns : List ℕ} → given (number f) (λ n. given rest (λ more. some (n ∷ more))) ≡ some ns → Split f rest ns
-unfolding number plain
+unfolding numberUpTo plain
 parts [] rest e = let z : _≡_ {A = ℕ} 0 1 = cc in absurd (omega arith)
 parts (b ∷ bs) rest e = found (number (b ∷ bs)) rest e
   where

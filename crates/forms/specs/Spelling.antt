@@ -42,8 +42,11 @@ unfoldable pub modeText : Mode → List ℕ
 modeText vsids = vsidsText
 modeText vmtf = vmtfText
 
+abbrev pub firstLine : Opening → List ℕ
+firstLine o = lineOf firstLetter (digits (o .vars) ∷ modeText (o .mode) ∷ [])
+
 abbrev pub First : List ℕ → Opening → Type 0
-First line o = (line ≡ lineOf firstLetter (digits (o .vars) ∷ modeText (o .mode) ∷ [])) × Whole (o .vars)
+First line o = (line ≡ firstLine o) × Whole (o .vars)
 
 -- 'clause lines `c` with 0 or more codes'
 abbrev pub Clause : List ℕ → List ℕ → Type 0

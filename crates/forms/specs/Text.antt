@@ -66,9 +66,13 @@ plain [] = false
 plain (b ∷ []) = isDigit b
 plain (b ∷ (c ∷ bs)) = (isDigit b && not (eqb b digitZero)) && all isDigit (c ∷ bs)
 
+-- a whole number up to the greatest that may stand there
+unfoldable pub numberUpTo : ℕ → List ℕ → Option ℕ
+numberUpTo top bs = cond (plain bs && leb (decimal 0 bs) top) (some (decimal 0 bs)) none
+
 -- 'Whole numbers are decimal, no leading zeros, at most 4294967295.'
-unfoldable pub number : List ℕ → Option ℕ
-number bs = cond (plain bs && leb (decimal 0 bs) NONE) (some (decimal 0 bs)) none
+abbrev pub number : List ℕ → Option ℕ
+number bs = numberUpTo NONE bs
 
 -- the lower-case hexadecimal digits 0 to 9 and a to f
 abbrev pub isHex : ℕ → Bool

@@ -16,7 +16,7 @@ use lib.Seq.{append-snoc, set-comm}
 use Rattle.laws.specs.Tests.{true-or-false, and-left, and-right, and-both}
 use Rattle.lit.specs.Numbers.{NONE}
 use Rattle.forms.specs.Letters.{digitZero, digitNine}
-use Rattle.forms.specs.Text.{newline, splitFrom, split, butLast, lines, occurs, find, all, isDigit, decimal, plain, number, digitsBy, digits, written}
+use Rattle.forms.specs.Text.{newline, splitFrom, split, butLast, lines, occurs, find, all, isDigit, decimal, plain, numberUpTo, digitsBy, digits, written}
 use Rattle.forms.specs.Reading.{decimal-grows, plain-starts}
 
 -- the first such byte, and how many there are
@@ -130,7 +130,7 @@ written-length at [] l = refl
 written-length at (b ∷ bs) l = written-length (at + 1) bs (set l at b) ∙ length-set l at b
 
 -- the last byte may be written first
-written-last : (at x : ℕ) (bs l : List ℕ) → written at (bs ++ (x ∷ [])) l ≡ written at bs (set l (at + length bs) x)
+pub written-last : (at x : ℕ) (bs l : List ℕ) → written at (bs ++ (x ∷ [])) l ≡ written at bs (set l (at + length bs) x)
 unfolding written
 written-last at x [] l = let e : at + 0 ≡ at = omega arith in rw e
 written-last at x (b ∷ bs) l =
@@ -142,7 +142,7 @@ tenth : (k n : ℕ) → n < 10 ^ suc k → n / 10 < 10 ^ k
 tenth k n h = omega (arith, pow-suc 10 k)
 
 -- places that are not needed change nothing
-digits-enough : (j k n : ℕ) → n < 10 ^ suc j → n < 10 ^ suc k → digitsBy (suc j) n ≡ digitsBy (suc k) n
+pub digits-enough : (j k n : ℕ) → n < 10 ^ suc j → n < 10 ^ suc k → digitsBy (suc j) n ≡ digitsBy (suc k) n
 unfolding digitsBy
 digits-enough zero k n p q = rw (lt-ltb n 10 p)
 digits-enough (suc j) zero n p q = rw (lt-ltb n 10 q)
@@ -151,37 +151,48 @@ digits-enough (suc j) (suc k) n p q =
     (λ e. rw e)
     (λ e. rw (e, digits-enough j k (n / 10) (tenth (suc j) n p) (tenth (suc k) n q)))
 
-pub digits-one : (n : ℕ) → n < 10 → digits n ≡ (digitZero + n) ∷ []
-unfolding digitsBy
-digits-one n h = rw (lt-ltb n 10 h)
+-- so a whole number has the digits that it has as one of 64 bits
+pub whole-digits : (n : ℕ) → n ≤ NONE → digitsBy 20 n ≡ digits n
+whole-digits n h = digits-enough 19 9 n (omega arith) (omega arith)
 
-digits-more : (k n : ℕ) → 10 ≤ n → digitsBy (suc k) n ≡ digitsBy k (n / 10) ++ ((digitZero + n % 10) ∷ [])
-unfolding digitsBy
-digits-more k n h = rw (le-ltb n 10 h)
+-- of numbers of at most j + 2 digits
+module _ (j : ℕ) where
+  abbrev pub decimals : ℕ → List ℕ
+  decimals n = digitsBy (suc (suc j)) n
 
-pub digits-step : (n : ℕ) → 10 ≤ n → n < 10 ^ 10 → digits n ≡ digits (n / 10) ++ ((digitZero + n % 10) ∷ [])
-digits-step n l h = digits-more 9 n l ∙ rw (digits-enough 8 9 (n / 10) (omega arith) (omega arith))
+  pub decimals-one : (n : ℕ) → n < 10 → decimals n ≡ (digitZero + n) ∷ []
+  unfolding digitsBy
+  decimals-one n h = rw (lt-ltb n 10 h)
 
-pub digits-length : (n : ℕ) → 10 ≤ n → n < 10 ^ 10 → length (digits n) ≡ length (digits (n / 10)) + 1
-digits-length n l h = ap length (digits-step n l h) ∙ length-append (digits (n / 10)) ((digitZero + n % 10) ∷ [])
+  decimals-more : (n : ℕ) → 10 ≤ n → decimals n ≡ digitsBy (suc j) (n / 10) ++ ((digitZero + n % 10) ∷ [])
+  unfolding digitsBy
+  decimals-more n h = rw (le-ltb n 10 h)
 
--- how many they are
-pub digits-count : (k n : ℕ) → 10 ^ suc k ≤ n → n < 10 ^ suc (suc k) → n < 10 ^ 10 → length (digits n) ≡ suc (suc k)
-digits-count zero n l u h =
-    let e : length (digits (n / 10)) ≡ 1 = ap length (digits-one (n / 10) (omega arith)) in
-    omega (arith, digits-length n (omega arith) h)
-digits-count (suc k) n l u h =
-    let e : length (digits (n / 10)) ≡ suc (suc k) = digits-count k (n / 10) (omega (arith, pow-suc 10 (suc k))) (tenth (suc (suc k)) n u) (omega arith) in
-    omega (arith, digits-length n (omega (arith, pow-suc 10 (suc k), pow-suc 10 k)) h)
+  pub decimals-step : (n : ℕ) → 10 ≤ n → n < 10 ^ suc (suc j) → decimals n ≡ decimals (n / 10) ++ ((digitZero + n % 10) ∷ [])
+  decimals-step n l h =
+      let less : n / 10 < 10 ^ suc j = tenth (suc j) n h in
+      decimals-more n l ∙ rw (digits-enough j (suc j) (n / 10) less (omega (arith, less, pow-suc 10 (suc j))))
 
--- the last digit, written before the others
-pub digits-last-first : (at n : ℕ) (l : List ℕ) → 10 ≤ n → n < 10 ^ 10 → written at (digits n) l ≡ written at (digits (n / 10)) (set l (at + length (digits (n / 10))) (digitZero + n % 10))
-digits-last-first at n l h u = rw (digits-step n h u) (written-last at (digitZero + n % 10) (digits (n / 10)) l)
+  pub decimals-length : (n : ℕ) → 10 ≤ n → n < 10 ^ suc (suc j) → length (decimals n) ≡ length (decimals (n / 10)) + 1
+  decimals-length n l h = ap length (decimals-step n l h) ∙ length-append (decimals (n / 10)) ((digitZero + n % 10) ∷ [])
 
--- a digit alone
-pub put-one : (at n : ℕ) (l : List ℕ) → n < 10 → set l at (digitZero + n) ≡ written at (digits n) l
-unfolding written
-put-one at n l h = rw (digits-one n h)
+  -- how many they are
+  pub decimals-count : (k n : ℕ) → 10 ^ suc k ≤ n → n < 10 ^ suc (suc k) → n < 10 ^ suc (suc j) → length (decimals n) ≡ suc (suc k)
+  decimals-count zero n l u h =
+      let e : length (decimals (n / 10)) ≡ 1 = ap length (decimals-one (n / 10) (omega arith)) in
+      omega (arith, decimals-length n (omega arith) h)
+  decimals-count (suc k) n l u h =
+      let e : length (decimals (n / 10)) ≡ suc (suc k) = decimals-count k (n / 10) (omega (arith, pow-suc 10 (suc k))) (tenth (suc (suc k)) n u) (omega arith) in
+      omega (arith, decimals-length n (omega (arith, pow-suc 10 (suc k), pow-suc 10 k)) h)
+
+  -- the last digit, written before the others
+  pub decimals-last-first : (at n : ℕ) (l : List ℕ) → 10 ≤ n → n < 10 ^ suc (suc j) → written at (decimals n) l ≡ written at (decimals (n / 10)) (set l (at + length (decimals (n / 10))) (digitZero + n % 10))
+  decimals-last-first at n l h u = rw (decimals-step n h u) (written-last at (digitZero + n % 10) (decimals (n / 10)) l)
+
+  -- a digit alone
+  pub put-decimal : (at n : ℕ) (l : List ℕ) → n < 10 → set l at (digitZero + n) ≡ written at (decimals n) l
+  unfolding written
+  put-decimal at n l h = rw (decimals-one n h)
 
 pub digits-short : (k j n : ℕ) → n < 10 ^ suc k → length (digitsBy j n) ≤ suc k
 unfolding digitsBy
@@ -259,61 +270,63 @@ digits-lead (suc j) n l h =
     (λ e. (let m : 10 ≤ n = ltb-false n 10 e in
     rw (e, List·getD-append (digitsBy (suc j) (n / 10)) ((digitZero + n % 10) ∷ []) 0 0 (digits-some j (n / 10))) (digits-lead j (n / 10) (omega arith) (tenth (suc j) n h))))
 
-digits-plain : (n : ℕ) → n < 10 ^ 10 → plain (digits n) ≡ true
-digits-plain n h =
-    plain-starts (digits n) (digits-some 9 n)
-    (λ z more. true-or-false (ltb n 10)
-    (λ e. omega (arith, ap length (digits-one n (ltb-true n 10 e))))
-    (λ e. (let m : 10 ≤ n = ltb-false n 10 e in omega (arith, digits-lead 9 n (omega arith) h))))
-    ∙ digits-all 10 n
+-- of numbers of at most j + 2 digits, the greatest of which is top
+module _ (j top : ℕ) (room : top < 10 ^ suc (suc j)) where
+  decimals-plain : (n : ℕ) → n ≤ top → plain (decimals j n) ≡ true
+  decimals-plain n h =
+      plain-starts (decimals j n) (digits-some (suc j) n)
+      (λ z more. true-or-false (ltb n 10)
+      (λ e. omega (arith, ap length (decimals-one j n (ltb-true n 10 e))))
+      (λ e. (let m : 10 ≤ n = ltb-false n 10 e in omega (arith, digits-lead (suc j) n (omega arith) (omega arith)))))
+      ∙ digits-all (suc (suc j)) n
 
--- a number's digits are read as the number
-pub number-digits : (n : ℕ) → n ≤ NONE → number (digits n) ≡ some n
-unfolding number
-number-digits n h = rw (digits-plain n (omega arith), decimal-digits 9 n (omega arith), le-leb n NONE h)
+  -- a number's digits are read as the number
+  pub number-decimals : (n : ℕ) → n ≤ top → numberUpTo top (decimals j n) ≡ some n
+  unfolding numberUpTo
+  number-decimals n h = rw (decimals-plain n h, decimal-digits (suc j) n (omega arith), le-leb n top h)
 
--- and no other text is
-digits-decimal : (v : ℕ) (bs : List ℕ) → 0 < v → all isDigit bs ≡ true → decimal v bs < 10 ^ 10 → digits (decimal v bs) ≡ digits v ++ bs
-unfolding all decimal
-digits-decimal v [] p d h = sym (append-nil (digits v))
-digits-decimal v (b ∷ bs) p d h =
-    let w = v * 10 + (b - digitZero) in
-    let first : isDigit b ≡ true = and-left (isDigit b) (all isDigit bs) d in
-    let low : digitZero ≤ b = leb-true digitZero b (and-left (leb digitZero b) (leb b digitNine) first) in
-    let high : b ≤ digitNine = leb-true b digitNine (and-right (leb digitZero b) (leb b digitNine) first) in
-    let tens : w / 10 ≡ v = omega arith in
-    let last : digitZero + w % 10 ≡ b = omega arith in
-    digits-decimal w bs (omega arith) (and-right (isDigit b) (all isDigit bs) d) h
-    ∙ rw (digits-step w (omega arith) (omega (arith, decimal-grows w bs)), tens, last) (append-snoc (digits v) b bs)
+  -- and no other text is
+  decimals-decimal : (v : ℕ) (bs : List ℕ) → 0 < v → all isDigit bs ≡ true → decimal v bs ≤ top → decimals j (decimal v bs) ≡ decimals j v ++ bs
+  unfolding all decimal
+  decimals-decimal v [] p d h = sym (append-nil (decimals j v))
+  decimals-decimal v (b ∷ bs) p d h =
+      let w = v * 10 + (b - digitZero) in
+      let first : isDigit b ≡ true = and-left (isDigit b) (all isDigit bs) d in
+      let low : digitZero ≤ b = leb-true digitZero b (and-left (leb digitZero b) (leb b digitNine) first) in
+      let high : b ≤ digitNine = leb-true b digitNine (and-right (leb digitZero b) (leb b digitNine) first) in
+      let tens : w / 10 ≡ v = omega arith in
+      let last : digitZero + w % 10 ≡ b = omega arith in
+      decimals-decimal w bs (omega arith) (and-right (isDigit b) (all isDigit bs) d) h
+      ∙ rw (decimals-step j w (omega arith) (omega (arith, decimal-grows w bs)), tens, last) (append-snoc (decimals j v) b bs)
 
-plain-text : (bs : List ℕ) → plain bs ≡ true → decimal 0 bs < 10 ^ 10 → digits (decimal 0 bs) ≡ bs
-unfolding plain decimal
-plain-text [] d h = absurd (false≢true d)
-plain-text (b ∷ []) d h =
-    let low : digitZero ≤ b = leb-true digitZero b (and-left (leb digitZero b) (leb b digitNine) d) in
-    let high : b ≤ digitNine = leb-true b digitNine (and-right (leb digitZero b) (leb b digitNine) d) in
-    let v = 0 * 10 + (b - digitZero) in
-    let same : digitZero + v ≡ b = omega arith in
-    digits-one v (omega arith) ∙ rw same
-plain-text (b ∷ (c ∷ bs)) d h =
-    let rest = all isDigit (c ∷ bs) in
-    let first : isDigit b && not (eqb b digitZero) ≡ true = and-left (isDigit b && not (eqb b digitZero)) rest d in
-    let digit : isDigit b ≡ true = and-left (isDigit b) (not (eqb b digitZero)) first in
-    let low : digitZero ≤ b = leb-true digitZero b (and-left (leb digitZero b) (leb b digitNine) digit) in
-    let high : b ≤ digitNine = leb-true b digitNine (and-right (leb digitZero b) (leb b digitNine) digit) in
-    let other : b ≢ digitZero = eqb-false b digitZero (tests.not-true (eqb b digitZero) (and-right (isDigit b) (not (eqb b digitZero)) first)) in
-    let v = 0 * 10 + (b - digitZero) in
-    let same : digitZero + v ≡ b = omega arith in
-    digits-decimal v (c ∷ bs) (omega arith) (and-right (isDigit b && not (eqb b digitZero)) rest d) h ∙ rw (digits-one v (omega arith), same)
+  plain-text : (bs : List ℕ) → plain bs ≡ true → decimal 0 bs ≤ top → decimals j (decimal 0 bs) ≡ bs
+  unfolding plain decimal
+  plain-text [] d h = absurd (false≢true d)
+  plain-text (b ∷ []) d h =
+      let low : digitZero ≤ b = leb-true digitZero b (and-left (leb digitZero b) (leb b digitNine) d) in
+      let high : b ≤ digitNine = leb-true b digitNine (and-right (leb digitZero b) (leb b digitNine) d) in
+      let v = 0 * 10 + (b - digitZero) in
+      let same : digitZero + v ≡ b = omega arith in
+      decimals-one j v (omega arith) ∙ rw same
+  plain-text (b ∷ (c ∷ bs)) d h =
+      let rest = all isDigit (c ∷ bs) in
+      let first : isDigit b && not (eqb b digitZero) ≡ true = and-left (isDigit b && not (eqb b digitZero)) rest d in
+      let digit : isDigit b ≡ true = and-left (isDigit b) (not (eqb b digitZero)) first in
+      let low : digitZero ≤ b = leb-true digitZero b (and-left (leb digitZero b) (leb b digitNine) digit) in
+      let high : b ≤ digitNine = leb-true b digitNine (and-right (leb digitZero b) (leb b digitNine) digit) in
+      let other : b ≢ digitZero = eqb-false b digitZero (tests.not-true (eqb b digitZero) (and-right (isDigit b) (not (eqb b digitZero)) first)) in
+      let v = 0 * 10 + (b - digitZero) in
+      let same : digitZero + v ≡ b = omega arith in
+      decimals-decimal v (c ∷ bs) (omega arith) (and-right (isDigit b && not (eqb b digitZero)) rest d) h ∙ rw (decimals-one j v (omega arith), same)
 
-pub number-text : (bs : List ℕ) (n : ℕ) → number bs ≡ some n → bs ≡ digits n
-unfolding number
-number-text bs n e =
-    true-or-false (plain bs && leb (decimal 0 bs) NONE)
-    (λ t. (let v : some (decimal 0 bs) ≡ some n = rw t at e in
-    let m : decimal 0 bs ≡ n = cc in
-    let top : decimal 0 bs ≤ NONE = leb-true (decimal 0 bs) NONE (and-right (plain bs) (leb (decimal 0 bs) NONE) t) in
-    sym (plain-text bs (and-left (plain bs) (leb (decimal 0 bs) NONE) t) (omega arith)) ∙ ap digits m))
-    (λ t. (let v : none ≡ some n = rw t at e in
-    let z : _≡_ {A = ℕ} 0 1 = cc in
-    absurd (omega arith)))
+  pub number-text : (bs : List ℕ) (n : ℕ) → numberUpTo top bs ≡ some n → bs ≡ decimals j n
+  unfolding numberUpTo
+  number-text bs n e =
+      true-or-false (plain bs && leb (decimal 0 bs) top)
+      (λ t. (let v : some (decimal 0 bs) ≡ some n = rw t at e in
+      let m : decimal 0 bs ≡ n = cc in
+      let small : decimal 0 bs ≤ top = leb-true (decimal 0 bs) top (and-right (plain bs) (leb (decimal 0 bs) top) t) in
+      sym (plain-text bs (and-left (plain bs) (leb (decimal 0 bs) top) t) small) ∙ ap (decimals j) m))
+      (λ t. (let v : none ≡ some n = rw t at e in
+      let z : _≡_ {A = ℕ} 0 1 = cc in
+      absurd (omega arith)))

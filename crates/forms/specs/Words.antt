@@ -17,8 +17,8 @@ use Rattle.laws.specs.Tests.{true-or-false, and-left, and-right, not-true}
 use Rattle.laws.specs.Choices.{or-cases}
 use Rattle.lit.specs.Numbers.{NONE}
 use Rattle.forms.specs.Letters.{dash, digitZero, digitNine, digitA, digitF}
-use Rattle.forms.specs.Text.{tab, find, occurs, all, isDigit, decimal, plain, number, isHex, hexDigit, hexadecimal, pattern, digits}
-use Rattle.forms.specs.TextLaws.{occurs-found, number-digits, number-text}
+use Rattle.forms.specs.Text.{tab, find, occurs, all, isDigit, decimal, plain, numberUpTo, number, isHex, hexDigit, hexadecimal, pattern, digits}
+use Rattle.forms.specs.TextLaws.{decimals, occurs-found, number-decimals, number-text}
 use Rattle.forms.specs.Forms.{given, numbers, is, reasonIn, Mode, vsids, vmtf, modeIn}
 use Rattle.forms.specs.Laws.{is-same, number-tab, pattern-tab, reason-tab, mode-tab}
 use Rattle.forms.specs.Spelling.{Without, Whole, hexByte, hex, reasonText, modeText}
@@ -55,15 +55,19 @@ module _ {A : Type 0} {read : List ℕ → Option A} {text : A → List ℕ} {Ok
   clean x h = by-cases (decLt 0 (occurs tab (text x))) (λ l. never (sym (F .no-tab (text x) (occurs-found tab (text x) l)) ∙ F .back x h)) (λ n. omega arith)
 
 -- whole numbers
-number-whole : (bs : List ℕ) (n : ℕ) → number bs ≡ some n → Whole n
-unfolding number
-number-whole bs n e =
-    let t = cond-some (plain bs && leb (decimal 0 bs) NONE) (some (decimal 0 bs)) e in
-    let same : decimal 0 bs ≡ n = cc (t .1) in
-    rw same at (leb-true (decimal 0 bs) NONE (and-right (plain bs) (leb (decimal 0 bs) NONE) (t .0)))
+module _ (top : ℕ) where
+  pub number-within : (bs : List ℕ) (n : ℕ) → numberUpTo top bs ≡ some n → n ≤ top
+  unfolding numberUpTo
+  number-within bs n e =
+      let t = cond-some (plain bs && leb (decimal 0 bs) top) (some (decimal 0 bs)) e in
+      let same : decimal 0 bs ≡ n = cc (t .1) in
+      rw same at (leb-true (decimal 0 bs) top (and-right (plain bs) (leb (decimal 0 bs) top) (t .0)))
+
+  pub a-decimal : (j : ℕ) → top < 10 ^ suc (suc j) → Field (numberUpTo top) (decimals j) (λ n. n ≤ top)
+  a-decimal j h = record { said = λ f n e. (number-text j top h f n e, number-within f n e); back = number-decimals j top h; no-tab = number-tab top }
 
 pub a-number : Field number digits Whole
-a-number = record { said = λ f n e. (number-text f n e, number-whole f n e); back = number-digits; no-tab = number-tab }
+a-number = a-decimal NONE 8 (omega arith)
 
 pub numbers-said : (fs : List (List ℕ)) (ns : List ℕ) → numbers fs ≡ some ns → (fs ≡ map digits ns) × Each Whole ns
 unfolding numbers
@@ -72,12 +76,12 @@ numbers-said (f ∷ fs) ns e =
     given-some (number f) _ e (λ n d e. given-some (numbers fs) _ e (λ ms ds e.
     let others = numbers-said fs ms ds in
     let same : ns ≡ n ∷ ms = cc in
-    rw same (cc (number-text f n d, others .0), (number-whole f n d, others .1))))
+    rw same (cc (a-number .said f n d .0, others .0), (a-number .said f n d .1, others .1))))
 
 pub numbers-back : (ns : List ℕ) → Each Whole ns → numbers (map digits ns) ≡ some ns
 unfolding numbers
 numbers-back [] h = refl
-numbers-back (n ∷ ns) h = rw (number-digits n (h .0), numbers-back ns (h .1))
+numbers-back (n ∷ ns) h = rw (a-number .back n (h .0), numbers-back ns (h .1))
 
 pub numbers-clean : (ns : List ℕ) → Each Whole ns → Each (Without tab) (map digits ns)
 numbers-clean [] h = tt
@@ -156,12 +160,12 @@ reason-said f r e =
     rw (← same, c .0) (a-number .said f n d)))
 
 reason-back : (r : ℕ) → Whole r → reasonIn (reasonText r) ≡ some r
-unfolding reasonIn reasonText is number plain
+unfolding reasonIn reasonText is numberUpTo plain
 reason-back r h =
     true-or-false (eqb r NONE)
     (λ t. rw (eqb-true r NONE t))
     (λ n.
-    let read = number-digits r h in
+    let read = a-number .back r h in
     let other : is (digits r) (dash ∷ []) ≡ false = not-true (is (digits r) (dash ∷ [])) (λ t. never (rw (is-same (digits r) (dash ∷ []) t) at read)) in
     rw (n, other, read, n))
 

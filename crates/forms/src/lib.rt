@@ -135,10 +135,10 @@ fn read_numbers(bytes: &[u8], out: &mut [u32]) -> Count
     let mut n = 0;
     let mut at = 0;
     loop {
-        let Field::Is(v, end) = crate::text::number_at(bytes, at) else {
+        let Field::Is(v, end) = crate::text::number_at(bytes, at, NONE as u64) else {
             return Count::Bad;
         };
-        put(out, n, v);
+        put(out, n, v as u32);
         n += 1;
         if end == bytes.len() {
             return Count::Are(n);

@@ -6,7 +6,8 @@ ghost use lib.Ieee.{binary64, ofBits};
 ghost use lib.ListN.{length, take, drop};
 ghost use Rattle.forms.specs.Text as spec;
 ghost use Rattle.forms.specs.TextRead.{wholeOf, fieldOf, bitsOf};
-ghost use Rattle.forms.specs.Reading.{block};
+ghost use Rattle.forms.specs.Reading.{block, digitValue, digitRun, run};
+ghost use Rattle.forms.specs.Written.{Wrote};
 use lit::NONE;
 
 pub const TAB: u8 = 9;
@@ -21,7 +22,7 @@ pub enum Whole {
 
 // The whole number that a field is and the place behind the field, or none where the bytes do not have a number's form.
 pub enum Field {
-    Is(u32, usize),
+    Is(u64, usize),
     Bad,
 }
 
@@ -100,20 +101,35 @@ pub fn number(field: &[u8]) -> Whole
     Whole::Is(v as u32)
 }
 
-// The whole number, read as `number` reads it, of the field from a place up to the next tab or the end.
-pub fn number_at(bytes: &[u8], at: usize) -> Field
+// The value of a decimal digit, or 10 where the byte is none.
+fn digit(b: u8) -> u8
+    ensures { λ r. ⌜ r ≡ digitValue b ⌝ }
+{
+    if b >= b'0' && b <= b'9' {
+        return b - b'0';
+    }
+    10
+}
+
+// The greatest number of 64 bits, and what it is without its last digit.
+const MOST: u64 = 18446744073709551615;
+
+const MOST_TENTH: u64 = 1844674407370955161;
+
+// The whole number, up to the greatest that may stand there, of the digits from a place on, and the place behind them.
+pub fn digits_at(bytes: &[u8], at: usize, top: u64) -> Field
     requires { ⌜ at ≤ length (now bytes) ⌝ }
-    ensures { λ r. ⌜ r ≡ fieldOf (at + spec.find spec.tab (drop at (now (bytes .entry)))) (spec.number (take (spec.find spec.tab (drop at (now (bytes .entry)))) (drop at (now (bytes .entry))))) ⌝ }
+    ensures { λ r. ⌜ r ≡ fieldOf (at + digitRun (drop at (now (bytes .entry)))) (spec.numberUpTo top (run (drop at (now (bytes .entry))))) ⌝ }
 {
     let mut value: u64 = 0;
     let mut i = at;
-    while i < bytes.len() && bytes[i] != TAB {
-        let b = bytes[i];
-        if b < b'0' || b > b'9' {
+    while i < bytes.len() && digit(bytes[i]) < 10 {
+        let d = digit(bytes[i]) as u64;
+        if value >= MOST_TENTH && value > (MOST - d) / 10 {
             return Field::Bad;
         }
-        value = value * 10 + (b - b'0') as u64;
-        if value > NONE as u64 {
+        value = value * 10 + d;
+        if value > top {
             return Field::Bad;
         }
         i += 1;
@@ -124,7 +140,21 @@ pub fn number_at(bytes: &[u8], at: usize) -> Field
     if bytes[at] == b'0' && i - at > 1 {
         return Field::Bad;
     }
-    Field::Is(value as u32, i)
+    Field::Is(value, i)
+}
+
+// The same of the field from a place up to the next tab or the end.
+pub fn number_at(bytes: &[u8], at: usize, top: u64) -> Field
+    requires { ⌜ at ≤ length (now bytes) ⌝ }
+    ensures { λ r. ⌜ r ≡ fieldOf (at + spec.find spec.tab (drop at (now (bytes .entry)))) (spec.numberUpTo top (take (spec.find spec.tab (drop at (now (bytes .entry)))) (drop at (now (bytes .entry))))) ⌝ }
+{
+    let Field::Is(v, end) = digits_at(bytes, at, top) else {
+        return Field::Bad;
+    };
+    if end < bytes.len() && bytes[end] != TAB {
+        return Field::Bad;
+    }
+    Field::Is(v, end)
 }
 
 // The value of a lower-case hexadecimal digit, or 16 where the byte is none.
@@ -175,44 +205,32 @@ pub fn double(bits: u64) -> f64
     f64::from_bits(bits)
 }
 
-// How many decimal digits a number has.
-fn digit_count(v: u32) -> usize
-    ensures { λ r. ⌜ r ≡ length (spec.digits v) ⌝ }
+// How many decimal digits a number has: four at a time, then the last ones.
+pub fn digit_count(v: u64) -> usize
+    ensures { λ r. ⌜ r ≡ length (spec.digitsBy 20 v) ⌝ }
 {
-    if v < 10 {
-        return 1;
+    let mut k = 0;
+    let mut left = v;
+    while left >= 10000 {
+        k += 4;
+        left /= 10000;
     }
-    if v < 100 {
-        return 2;
+    if left < 10 {
+        return k + 1;
     }
-    if v < 1000 {
-        return 3;
+    if left < 100 {
+        return k + 2;
     }
-    if v < 10000 {
-        return 4;
+    if left < 1000 {
+        return k + 3;
     }
-    if v < 100000 {
-        return 5;
-    }
-    if v < 1000000 {
-        return 6;
-    }
-    if v < 10000000 {
-        return 7;
-    }
-    if v < 100000000 {
-        return 8;
-    }
-    if v < 1000000000 {
-        return 9;
-    }
-    10
+    k + 4
 }
 
 // Writes the decimal digits of a number from a place on, the last one first, and gives the place behind them.
-pub fn put_number(out: &mut [u8], at: usize, v: u32) -> usize
-    requires { ⌜ at + length (spec.digits v) ≤ length (now out) ⌝ }
-    ensures { λ r. ⌜ (now (out .exit) ≡ spec.written at (spec.digits v) (now (out .entry))) × (r ≡ at + length (spec.digits v)) ⌝ }
+pub fn put_number(out: &mut [u8], at: usize, v: u64) -> usize
+    requires { ⌜ at + length (spec.digitsBy 20 v) ≤ length (now out) ⌝ }
+    ensures { λ r. ⌜ Wrote at (spec.digitsBy 20 v) (now (out .entry)) (now (out .exit)) r ⌝ }
 {
     let end = at + digit_count(v);
     let mut left = v;

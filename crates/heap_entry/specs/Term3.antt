@@ -14,7 +14,7 @@ use Rattle.session.specs.Entered as either
 use Rattle.session.specs.Entered.{RightScratch, Founded}
 use Rattle.session.specs.Mode.{Mode}
 use Rattle.session.specs.Runs as runs
-use Rattle.session.specs.Runs.{Listed, runLent, runLists, FoundedBy, Family}
+use Rattle.session.specs.Runs.{FoundedBy, Turn, runTurns, Family}
 use Rattle.heap_entry.specs.Entry.{heapMode, entered, made}
 use Rattle.heap_entry.specs.Kept.{chooser, IsGood}
 use Rattle.heap_entry.specs.Checked.{heap-sound}
@@ -24,7 +24,7 @@ abbrev pub heapOver : Lending → Mode
 heapOver g = heapMode (g .n) (g .m) (g .lits) (g .ends)
 
 -- the heap is good for the values and switches over whatever is lent
-heap-family : Family heapOver (λ g h c. c)
+pub heap-family : Family heapOver (λ g h c. c)
 unfolding chooser heap-sound
 heap-family = record {
   self = λ g c. refl;
@@ -36,24 +36,18 @@ heap-family = record {
   carry = λ g h f f′ e values on c q. heap-ok (h .n) (h .lits) (h .ends) (f′ .small) (f′ .clauses) (subst (λ (n : ℕ). HeapOk n values on c) e (ok-heap (g .n) (g .lits) (g .ends) (f .small) (f .clauses) q));
 }
 
--- Term 3: over every list of calls, refused ones included and whatever each is lent with, from the session that an accepted creation made
+-- Term 3: over every row of turns, calls and lists of calls with saves between them, refused ones included and whatever each is lent with, from the session that an
+-- accepted creation made
 module _ (g : Lending) where
-  pub made-term3 : (s : Session (g .n) (g .m) (heapOps (g .n) (g .lits) (g .ends))) → status (made (g .n) (g .m) (g .lits) (g .literals) (g .ends) s) ≡ 0 → (asks : List (Lending × Asked))
+  pub made-term3 : (s : Session (g .n) (g .m) (heapOps (g .n) (g .lits) (g .ends))) → status (made (g .n) (g .m) (g .lits) (g .literals) (g .ends) s) ≡ 0 → (turns : List Turn)
       → let r = startingWith (g .n) (g .m) (heapOps (g .n) (g .lits) (g .ends)) (leaves s (made (g .n) (g .m) (g .lits) (g .literals) (g .ends) s)) in
-      Claim (g .n) (g .m) (heapOps (g .n) (g .lits) (g .ends)) (runLent heapOver (λ g h c. c) g r asks)
+      Claim (g .n) (g .m) (heapOps (g .n) (g .lits) (g .ends)) (runTurns heapOver (λ g h c. c) g r turns)
   made-term3 = runs.made-term3 heapOver (λ g h c. c) heap-family g true
 
   -- and from every fresh session with at most 2,048 variables and a good clause list
-  pub heap-term3 : FoundedBy g → (asks : List (Lending × Asked))
-      → Claim (g .n) (g .m) (heapOps (g .n) (g .lits) (g .ends)) (runLent heapOver (λ g h c. c) g (begin (g .n) (g .m) (heapOps (g .n) (g .lits) (g .ends))) asks)
-  heap-term3 = runs.lent-term3 heapOver (λ g h c. c) heap-family g
-
-  -- and over any number of lists of calls in a row, each checked once, with whatever it is lent with and `curr_i` as the host has set it
-  pub made-lists-term3 : (s : Session (g .n) (g .m) (heapOps (g .n) (g .lits) (g .ends))) → status (made (g .n) (g .m) (g .lits) (g .literals) (g .ends) s) ≡ 0
-      → (lists : List Listed)
-      → let r = startingWith (g .n) (g .m) (heapOps (g .n) (g .lits) (g .ends)) (leaves s (made (g .n) (g .m) (g .lits) (g .literals) (g .ends) s)) in
-      Claim (g .n) (g .m) (heapOps (g .n) (g .lits) (g .ends)) (runLists heapOver (λ g h c. c) g r lists)
-  made-lists-term3 = runs.made-lists-term3 heapOver (λ g h c. c) heap-family g true
+  pub heap-term3 : FoundedBy g → (turns : List Turn)
+      → Claim (g .n) (g .m) (heapOps (g .n) (g .lits) (g .ends)) (runTurns heapOver (λ g h c. c) g (begin (g .n) (g .m) (heapOps (g .n) (g .lits) (g .ends))) turns)
+  heap-term3 = runs.turns-term3 heapOver (λ g h c. c) heap-family g
 
 module _ (n m : ℕ) (lits : List ℕ) (literals : ℕ) (ends : List ℕ) where
   -- an accepted creation makes the session that `begin` has

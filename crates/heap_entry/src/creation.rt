@@ -14,7 +14,7 @@ use trail::TrailState;
 use vsids::VsidsState;
 
 // The small states that come back where no session was made.
-fn blank_state() -> HeapState
+pub fn blank_state() -> HeapState
     ensures { λ r. ⌜ r ≡ blank ⌝ }
 {
     HeapState {

@@ -22,7 +22,13 @@ use vsids::VsidsState;
 pub mod creation;
 
 // Whether the heap's slices have length n.
-fn heap_lengths(n: usize, activity: &[f64], heap: &[u32], indices: &[u32], decision: &[u8]) -> bool
+pub fn heap_lengths(
+    n: usize,
+    activity: &[f64],
+    heap: &[u32],
+    indices: &[u32],
+    decision: &[u8],
+) -> bool
     ensures { λ r. ⌜ ((s : VsidsState) →
         let h = vsidsOf (now (activity .entry)) (now (heap .entry)) (now (indices .entry)) (now (decision .entry)) s in
         r ≡ heapLengths n h) ⌝ }

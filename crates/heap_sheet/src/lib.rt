@@ -71,7 +71,7 @@ fn from_fresh(
     ) {
         return p.at;
     }
-    crate::run::heap_lines(
+    let u = crate::run::heap_lines(
         sheet,
         out,
         n,
@@ -87,7 +87,8 @@ fn from_fresh(
         indices,
         decision,
         HeapPlace { place: p, state: s },
-    )
+    );
+    u.place.at
 }
 
 // The same in arrays as they are set up, which have room for n variables. The positions are the heap's.

@@ -1,15 +1,16 @@
 // The lines of a session in heap mode, done and answered in turn.
+ghost use mathlib.Core.Path.{_≡_};
 ghost use lib.ListN.{length};
 ghost use Rattle.trail.specs.Memory.{trailOf};
 ghost use Rattle.vsids.specs.Vsids.{vsidsOf};
 ghost use Rattle.heap_session.specs.Memory.{sessionOf};
 ghost use Rattle.heap_session.specs.Good.{GoodSession};
-ghost use Rattle.sheet.specs.Stages.{inHeap};
-ghost use Rattle.sheet.specs.Running.{Room, Ended};
+ghost use Rattle.sheet.specs.Running.{Room};
+ghost use Rattle.heap_sheet.specs.Lines.{HeapAlong};
 use crate::line::HeapPlace;
 use crate::line::next_line;
 
-// Does the lines that are left and answers them, and gives the place behind the answers.
+// Does the lines that are left and answers them, and gives where the run stands behind the last.
 pub fn heap_lines(
     sheet: &[u8],
     out: &mut [u8],
@@ -26,12 +27,14 @@ pub fn heap_lines(
     indices: &mut [u32],
     decision: &mut [u8],
     s: HeapPlace,
-) -> usize
+) -> HeapPlace
     requires { ⌜ Room (now sheet) (s .place) (now out) ⌝ }
     requires { ⌜ GoodSession n (length (now ends)) (now lits) (now ends) (trailOf (now values) (now levels) (now reasons) (now trail) (now opened) (s .state .trail)) (vsidsOf (now activity) (now heap) (now indices) (now decision) (s .state .vsids)) ⌝ }
+    ensures { λ r. ⌜ r .place .left ≡ 0 ⌝ }
     ensures { λ r.
         let before = sessionOf n (length (now (ends .entry))) (now (lits .entry)) (now (ends .entry)) (now (values .entry)) (now (levels .entry)) (now (reasons .entry)) (now (trail .entry)) (now (opened .entry)) (now (activity .entry)) (now (heap .entry)) (now (indices .entry)) (now (decision .entry)) (s .state) in
-        ⌜ Ended (now (sheet .entry)) (s .place) (inHeap n (now (lits .entry)) (now (ends .entry)) before) (now (out .entry)) r (now (out .exit)) ⌝ }
+        let after = sessionOf n (length (now (ends .entry))) (now (lits .entry)) (now (ends .entry)) (now (values .exit)) (now (levels .exit)) (now (reasons .exit)) (now (trail .exit)) (now (opened .exit)) (now (activity .exit)) (now (heap .exit)) (now (indices .exit)) (now (decision .exit)) (r .state) in
+        ⌜ HeapAlong n (now (lits .entry)) (now (ends .entry)) (now (sheet .entry)) (s .place) before (now (out .entry)) (r .place) after (now (out .exit)) ⌝ }
 {
     let mut u = s;
     let mut left = s.place.left;
@@ -55,5 +58,5 @@ pub fn heap_lines(
         );
         left = left - 1;
     }
-    u.place.at
+    u
 }

@@ -35,7 +35,7 @@ list-sized n l e =
     let z = both _ _ _ _ (and-right (eqb (length (l .next)) n) _ e) in
     record { next-long = eqb-true _ _ (and-left (eqb (length (l .next)) n) _ e); prev-long = z .0; ts-long = z .1 }
 
-sized-list : (n : ℕ) (l : Vmtf) → ListSized n l → listLengths n l ≡ true
+pub sized-list : (n : ℕ) (l : Vmtf) → ListSized n l → listLengths n l ≡ true
 sized-list n l z = rw (eq-eqb _ _ (z .next-long), eq-eqb _ _ (z .prev-long), eq-eqb _ _ (z .ts-long))
 
 -- of a good session it passes

@@ -16,7 +16,7 @@ use Rattle.session.specs.Entered.{RightScratch, Founded}
 use Rattle.session.specs.Mode.{Mode, scratchLengths}
 use Rattle.session.specs.Mode as mode
 use Rattle.session.specs.Runs as runs
-use Rattle.session.specs.Runs.{Listed, runLent, runLists, FoundedBy, Family}
+use Rattle.session.specs.Runs.{FoundedBy, Turn, runTurns, Family}
 use Rattle.list_session.specs.Kept.{IsGood}
 use Rattle.list_entry.specs.Entry.{listMode, entered, made, madeUnaided}
 use Rattle.list_entry.specs.Checked.{list-sound}
@@ -29,7 +29,7 @@ few : {n : ℕ} → n ≤ maxVars → n ≤ NONE
 few small = omega arith
 
 -- the list is good over whatever is lent
-list-family : Family listOver (λ g h c. c)
+pub list-family : Family listOver (λ g h c. c)
 unfolding list-sound
 list-family = record {
   self = λ g c. refl;
@@ -41,25 +41,25 @@ list-family = record {
   carry = λ g h f f′ e values on c q. list-ok (h .n) (h .m) (h .lits) (few (f′ .small)) (subst (λ (n : ℕ). ListOk n values on c) e (ok-list (g .n) (g .m) (g .lits) (few (f .small)) q));
 }
 
--- Term 3: over every list of calls, refused ones included and whatever each is lent with, from the session that an accepted creation made
+-- Term 3: over every row of turns, calls and lists of calls with saves between them, refused ones included and whatever each is lent with, from the session that an
+-- accepted creation made
 module _ (g : Lending) where
   pub made-term3 : (counts indexes : List ℕ) (s : Session (g .n) (g .m) (listOps (g .n) (g .lits))) → status (made (g .n) (g .m) (g .lits) (g .literals) (g .ends) counts indexes s) ≡ 0
-      → (asks : List (Lending × Asked))
+      → (turns : List Turn)
       → let r = startingWith (g .n) (g .m) (listOps (g .n) (g .lits)) (leaves s (made (g .n) (g .m) (g .lits) (g .literals) (g .ends) counts indexes s)) in
-      Claim (g .n) (g .m) (listOps (g .n) (g .lits)) (runLent listOver (λ g h c. c) g r asks)
+      Claim (g .n) (g .m) (listOps (g .n) (g .lits)) (runTurns listOver (λ g h c. c) g r turns)
   made-term3 counts indexes = runs.made-term3 listOver (λ g h c. c) list-family g (scratchLengths (g .n) (length counts) (length indexes))
 
-  -- and from every fresh session with at most 2,048 variables and a good clause list
-  pub list-term3 : FoundedBy g → (asks : List (Lending × Asked))
-      → Claim (g .n) (g .m) (listOps (g .n) (g .lits)) (runLent listOver (λ g h c. c) g (begin (g .n) (g .m) (listOps (g .n) (g .lits))) asks)
-  list-term3 = runs.lent-term3 listOver (λ g h c. c) list-family g
-
-  -- and over any number of lists of calls in a row, each checked once, with whatever it is lent with and `curr_i` as the host has set it
-  pub made-lists-term3 : (s : Session (g .n) (g .m) (listOps (g .n) (g .lits))) → status (madeUnaided (g .n) (g .m) (g .lits) (g .literals) (g .ends) s) ≡ 0
-      → (lists : List Listed)
+  -- the same where creation was lent no scratch
+  pub unaided-term3 : (s : Session (g .n) (g .m) (listOps (g .n) (g .lits))) → status (madeUnaided (g .n) (g .m) (g .lits) (g .literals) (g .ends) s) ≡ 0 → (turns : List Turn)
       → let r = startingWith (g .n) (g .m) (listOps (g .n) (g .lits)) (leaves s (madeUnaided (g .n) (g .m) (g .lits) (g .literals) (g .ends) s)) in
-      Claim (g .n) (g .m) (listOps (g .n) (g .lits)) (runLists listOver (λ g h c. c) g r lists)
-  made-lists-term3 = runs.made-lists-term3 listOver (λ g h c. c) list-family g true
+      Claim (g .n) (g .m) (listOps (g .n) (g .lits)) (runTurns listOver (λ g h c. c) g r turns)
+  unaided-term3 = runs.made-term3 listOver (λ g h c. c) list-family g true
+
+  -- and from every fresh session with at most 2,048 variables and a good clause list
+  pub list-term3 : FoundedBy g → (turns : List Turn)
+      → Claim (g .n) (g .m) (listOps (g .n) (g .lits)) (runTurns listOver (λ g h c. c) g (begin (g .n) (g .m) (listOps (g .n) (g .lits))) turns)
+  list-term3 = runs.turns-term3 listOver (λ g h c. c) list-family g
 
 module _ (n m : ℕ) (lits : List ℕ) (literals : ℕ) (ends : List ℕ) where
   -- an accepted creation, with scratch that is lent or without, makes the session that `begin` has

@@ -14,7 +14,7 @@ use trail::TrailState;
 use vmtf::VmtfState;
 
 // The small states that come back where no session was made.
-fn blank_state() -> ListState
+pub fn blank_state() -> ListState
     ensures { λ r. ⌜ r ≡ blank ⌝ }
 {
     ListState {

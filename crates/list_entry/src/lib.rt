@@ -23,7 +23,7 @@ use vmtf::VmtfState;
 pub mod creation;
 
 // Whether the list's slices have length n.
-fn list_lengths(n: usize, next: &[u32], prev: &[u32], ts: &[u64]) -> bool
+pub fn list_lengths(n: usize, next: &[u32], prev: &[u32], ts: &[u64]) -> bool
     ensures { λ r. ⌜ ((s : VmtfState) →
         let l = vmtfOf (now (next .entry)) (now (prev .entry)) (now (ts .entry)) s in
         r ≡ listLengths n l) ⌝ }

@@ -32,7 +32,7 @@ pub struct Started {
 }
 
 // Makes a fresh session in slices of length n for m clauses, and checks it. The levels and the reasons serve as scratch.
-fn start(
+pub fn start(
     n: u32,
     m: u32,
     lits: &[u32],
@@ -110,7 +110,7 @@ fn from_fresh(
         return p.at;
     }
     let s = a.state;
-    crate::run::list_lines(
+    let u = crate::run::list_lines(
         sheet,
         out,
         n,
@@ -124,7 +124,8 @@ fn from_fresh(
         prev,
         ts,
         ListPlace { place: p, state: s },
-    )
+    );
+    u.place.at
 }
 
 // The same in arrays that have room for n variables.

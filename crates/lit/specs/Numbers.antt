@@ -78,3 +78,7 @@ largeStep = 13
 
 abbrev pub pastOpen : ℕ
 pastOpen = 14
+
+-- 'a saved line missing, out of place or not of its form, checked after 3'
+abbrev pub badSaved : ℕ
+badSaved = 15

@@ -56,6 +56,8 @@ pub const LARGE_STEP: u32 = 13;
 
 pub const PAST_OPEN: u32 = 14;
 
+pub const BAD_SAVED: u32 = 15;
+
 // The variable of a literal.
 pub fn index(code: u32) -> u32
     ensures { λ r. ⌜ r ≡ spec.index code ⌝ }

@@ -1,2 +1,3 @@
 -- The small states of a session as hosts lend them.
 pub mod Small
+pub mod Counts

@@ -8,6 +8,7 @@ pub mod Lending
 pub mod LocalArray
 pub mod Locals
 pub mod Packing
+pub mod Parameters
 pub mod Passing
 pub mod Reading
 pub mod Reborrow

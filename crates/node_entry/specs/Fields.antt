@@ -29,7 +29,7 @@ use Rattle.node_entry.specs.Nodes.{nexts, prevs, tss, room, roomFor}
 abbrev pub sizeStatus : ℕ → ℕ
 sizeStatus n = cond (leb n maxVars) badLength manyVars
 
-sizes-out : {S : Type 0} (n : ℕ) (lengths clauses : Bool) (x : Result S) → (n ≤ maxVars → lengths ≡ false) → sizesChecked n lengths clauses x ≡ refuse (sizeStatus n)
+pub sizes-out : {S : Type 0} (n : ℕ) (lengths clauses : Bool) (x : Result S) → (n ≤ maxVars → lengths ≡ false) → sizesChecked n lengths clauses x ≡ refuse (sizeStatus n)
 unfolding sizesChecked need
 sizes-out n lengths clauses x h = go (leb n maxVars) refl
   where
@@ -37,13 +37,26 @@ sizes-out n lengths clauses x h = go (leb n maxVars) refl
     go false e = refl
     go true e = rw (h (leb-true n maxVars e))
 
+-- of so many nodes as there is room for: either they are all, or more than there may be variables
+module _ (ns : List Node) (k : ℕ) (fits : k ≡ roomFor (length ns)) where
+  pub few-nodes : length ns < room → (f : Node → ℕ) → (take k (map f ns) ≡ map f ns) × ((l : List ℕ) → l ++ drop k (map f ns) ≡ l)
+  few-nodes h f =
+      let e : k ≡ length ns = fits ∙ rw (lt-ltb (length ns) room h) in
+      (take-all k (map f ns) (omega (arith, e, length-map ns f)), λ l. rw (drop-of-length-le (map f ns) {i = k} (omega (arith, e, length-map ns f))) (append-nil l))
+
+  pub many-nodes : room ≤ length ns → (room ≤ length (take k (nexts ns))) × (room ≤ length (nexts ns))
+  many-nodes h =
+      let e : k ≡ room = fits ∙ rw (le-ltb (length ns) room h) in
+      let all = length-map ns (λ (d : Node). d .next) in
+      (omega (arith, e, length-take-le k (nexts ns) (omega (arith, e, all))), omega (arith, all))
+
 module _ (n m : ℕ) (lits values levels reasons trail opened : List ℕ) (s : ListState) where
   -- the session with these fields of nodes
   abbrev pub listed : List ℕ → List ℕ → List ℕ → Session n m (listOps n lits)
   listed next prev ts = sessionOf n m lits values levels reasons trail opened next prev ts s
 
   module _ (literals : ℕ) (ends next prev ts : List ℕ) (out : n ≤ maxVars → length next ≡ n → ⊥) where
-    lengths-out : (scratch : Bool) → n ≤ maxVars → lengthsOk n m (listMode n m lits) lits literals ends (listed next prev ts) scratch ≡ false
+    pub lengths-out : (scratch : Bool) → n ≤ maxVars → lengthsOk n m (listMode n m lits) lits literals ends (listed next prev ts) scratch ≡ false
     unfolding lengthsOk
     lengths-out scratch small = rw (ne-eqb (length next) n (out small)) (and-false (trailLengths n (listed next prev ts .trail)))
 
@@ -82,16 +95,8 @@ module _ (n m : ℕ) (lits values levels reasons trail opened : List ℕ) (s : L
     longer-first : longer first ≡ all
     longer-first = λ i. listed (take-append-drop k (nexts ns) i) (take-append-drop k (prevs ns) i) (take-append-drop k (tss ns) i)
 
-    few : length ns < room → (f : Node → ℕ) → (take k (map f ns) ≡ map f ns) × ((l : List ℕ) → l ++ drop k (map f ns) ≡ l)
-    few h f =
-        let e : k ≡ length ns = fits ∙ rw (lt-ltb (length ns) room h) in
-        (take-all k (map f ns) (omega (arith, e, length-map ns f)), λ l. rw (drop-of-length-le (map f ns) {i = k} (omega (arith, e, length-map ns f))) (append-nil l))
-
     many : room ≤ length ns → (answers first ≡ refuse (sizeStatus n)) × (answers all ≡ refuse (sizeStatus n))
-    many h =
-        let e : k ≡ room = fits ∙ rw (le-ltb (length ns) room h) in
-        let z : length (take k (nexts ns)) ≡ k = length-take-le k (nexts ns) (omega (arith, e, length-map ns (λ (d : Node). d .next))) in
-        (out _ _ _ (λ small q. omega (arith, small, q, z, e)), out _ _ _ (λ small q. omega (arith, small, q, h, length-map ns (λ (d : Node). d .next))))
+    many h = let z = many-nodes ns k fits h in (out _ _ _ (λ small q. omega (arith, small, q, z .0)), out _ _ _ (λ small q. omega (arith, small, q, z .1)))
 
     -- what it answers for the first, it answers for all
     pub first-for-all : (next₀ prev₀ ts₀ values' levels' reasons' trail' opened' next' prev' ts' : List ℕ) (s' : ListState) (ms : List Node) (status reply : ℕ)
@@ -103,9 +108,9 @@ module _ (n m : ℕ) (lits values levels reasons trail opened : List ℕ) (s : L
         let a = rw (g .0, g .1, g .2) at a₀ in
         by-cases (decLt (length ns) room)
         (λ b.
-        let x = few b (λ (d : Node). d .next) in
-        let y = few b (λ (d : Node). d .prev) in
-        let z = few b (λ (d : Node). d .ts) in
+        let x = few-nodes ns k fits b (λ (d : Node). d .next) in
+        let y = few-nodes ns k fits b (λ (d : Node). d .prev) in
+        let z = few-nodes ns k fits b (λ (d : Node). d .ts) in
         rw (h .0 ∙ x .1 next', h .1 ∙ y .1 prev', h .2 ∙ z .1 ts') (rw (x .0, y .0, z .0) at a))
         (λ b.
         let q = many (omega (arith, b)) in

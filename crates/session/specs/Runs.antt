@@ -1,5 +1,5 @@
--- Term 3 on the entry points' own definition, in either mode: runs as in `book`, of calls that are checked first, whatever each is lent with.
--- An accepted call finds the memory good for what it is lent with, so that what every run keeps goes on over that.
+-- Term 3 on the entry points' own definition, in either mode: runs as in `book`, of calls that are checked first, whatever each is lent with, and of saves between
+-- them. What is accepted finds the memory good for what it is lent with, so that what every run keeps goes on over that.
 use Prim.Native.Nat.{ℕ}
 use mathlib.Core.Path.{_≡_, refl, sym, ap, subst, _∙_}
 use mathlib.Core.Bool.{Bool, true, false, true≢false}
@@ -16,9 +16,11 @@ use Rattle.book.specs.Chooser.{Operations, Chooser}
 use Rattle.book.specs.Session.{Result, done, refuse, status, leaves, mapped, Session, call}
 use Rattle.book.specs.Claim.{recordsOf, Run, startingWith, begin, extended, step, run, Claim}
 use Rattle.book.proofs.Books.{length-values}
+use Rattle.book.specs.Saved.{readBack}
 use Rattle.book.specs.Read.{behind, run-past}
 use Rattle.book.proofs.Term3.{Inv, began, stepped, turned-down, ran}
 use Rattle.book.proofs.OtherList.{overRun, claim-over, over-list}
+use Rattle.book.proofs.Saved.{read-back}
 use Rattle.session.specs.Asked.{Asked, asked, Lending}
 use Rattle.session.specs.Mode.{Mode, entered, enteredList, made}
 use Rattle.session.specs.Checks as check
@@ -28,17 +30,23 @@ use Rattle.session.specs.Entered.{Sound, RightScratch, Founded, GoodMemo
 abbrev pub FoundedBy : Lending → Type 0
 FoundedBy g = Founded (g .n) (g .m) (g .lits) (g .ends)
 
--- a list of calls: what it is lent with, where `curr_i` stands, whether answers and words fit, and the calls
-abbrev pub Listed : Type 0
-Listed = Lending × ℕ × Bool × List Call
+-- A turn at a session: a call; a list of calls, and whether answers and words fit; a save, behind which the session is read back. Each has what it is lent with.
+-- Between them the solver propagates: its host sets `curr_i`
+pub data Turn : Type 0 where
+  single : Lending → Asked → Turn
+  listed : Lending → Bool → List Call → Turn
+  saved : Lending → Turn
+  propagated : ℕ → Turn
 
--- the session with `curr_i` as its host has set it: between two lists the solver propagates
-abbrev pub withCurr : {n m : ℕ} {O : Operations} → ℕ → Session n m O → Session n m O
-withCurr curr s = record { trail = withLevels (s .trail .opened) (s .trail .level) curr (s .trail); chooser = s .chooser }
+-- the run with `curr_i` as the host has set it
+abbrev pub withCurr : {n m : ℕ} {O : Operations} → ℕ → Run n m O → Run n m O
+withCurr curr r =
+    let t = r .now .trail in
+    record { now = record { trail = withLevels (t .opened) (t .level) curr t; chooser = r .now .chooser }; past = r .past }
 
 -- calls that are each lent with g
-abbrev pub allLent : Lending → List Asked → List (Lending × Asked)
-allLent g asks = map (λ (a : Asked). (g, a)) asks
+abbrev pub allLent : Lending → List Asked → List Turn
+allLent g asks = map (single g) asks
 
 -- M g is the mode over what g lends, and `into g h c` the memory c of its chooser as memory of the one over h.
 module _ (M : Lending → Mode) (into : (g h : Lending) → M g .ops .State → M h .ops .State) where
@@ -56,23 +64,26 @@ module _ (M : Lending → Mode) (into : (g h : Lending) → M g .ops .State → 
   abbrev pub enteredWith : (g h : Lending) → Asked → SessionOver g → Result (SessionOver g)
   enteredWith g h a s = mapped (moved h g) (enteredOver g h a s)
 
-  unfoldable pub runLent : (g : Lending) → Run (g .n) (g .m) (M g .ops) → List (Lending × Asked) → Run (g .n) (g .m) (M g .ops)
-  runLent g r [] = r
-  runLent g r ((h, a) ∷ asks) = runLent g (extended (g .n) (g .m) (M g .ops) r (asked a) (enteredWith g h a (r .now))) asks
-
   -- a list of calls that is lent with h, on the memory of a session over g
-  abbrev pub listWith : (g h : Lending) → ℕ → Bool → List Call → SessionOver g → Result (Run (h .n) (h .m) (M h .ops))
-  listWith g h curr fit cs s = enteredList (h .n) (h .m) (M h) (h .lits) (h .literals) (h .ends) fit cs (moved g h (withCurr curr s))
+  abbrev pub listWith : (g h : Lending) → Bool → List Call → SessionOver g → Result (Run (h .n) (h .m) (M h .ops))
+  listWith g h fit cs s = enteredList (h .n) (h .m) (M h) (h .lits) (h .literals) (h .ends) fit cs (moved g h s)
 
   -- a run over g, gone on by what such a list came to; a refused one puts nothing in the log
   abbrev pub goneOn : (g h : Lending) → Run (g .n) (g .m) (M g .ops) → Result (Run (h .n) (h .m) (M h .ops)) → Run (g .n) (g .m) (M g .ops)
   goneOn g h r (done k u) = record { now = moved h g (u .now); past = u .past ++ r .past }
   goneOn g h r (refuse k) = r
 
-  -- any number of lists in a row
-  unfoldable pub runLists : (g : Lending) → Run (g .n) (g .m) (M g .ops) → List Listed → Run (g .n) (g .m) (M g .ops)
-  runLists g r [] = r
-  runLists g r ((h, curr, fit, cs) ∷ lists) = runLists g (goneOn g h r (listWith g h curr fit cs (r .now))) lists
+  -- a turn of a run. A save is checked as a list without calls is, and where it is accepted the run goes on with the session that was read back
+  unfoldable pub turn : (g : Lending) → Run (g .n) (g .m) (M g .ops) → Turn → Run (g .n) (g .m) (M g .ops)
+  turn g r (single h a) = extended (g .n) (g .m) (M g .ops) r (asked a) (enteredWith g h a (r .now))
+  turn g r (listed h fit cs) = goneOn g h r (listWith g h fit cs (r .now))
+  turn g r (saved h) = goneOn g h r (mapped readBack (listWith g h true [] (r .now)))
+  turn g r (propagated curr) = withCurr curr r
+
+  -- any number of them in a row
+  unfoldable pub runTurns : (g : Lending) → Run (g .n) (g .m) (M g .ops) → List Turn → Run (g .n) (g .m) (M g .ops)
+  runTurns g r [] = r
+  runTurns g r (t ∷ turns) = runTurns g (turn g r t) turns
 
   -- What the modes owe: the memory is the same over each, and each is sound and has a chooser, which the memory suits over each N alike
   pub record Family : Type 1 where
@@ -146,25 +157,42 @@ module _ (M : Lending → Mode) (into : (g h : Lending) → M g .ops .State → 
           },
         )
 
-    along : (r : Run (g .n) (g .m) (M g .ops)) (asks : List (Lending × Asked)) → Keeps r → Keeps (runLent g r asks)
-    unfolding runLent
-    along r [] p = p
-    along r ((h, a) ∷ asks) p =
+    one-call : (h : Lending) (a : Asked) (r : Run (g .n) (g .m) (M g .ops)) → Keeps r → Keeps (extended (g .n) (g .m) (M g .ops) r (asked a) (enteredWith g h a (r .now)))
+    one-call h a r p =
         let x = enteredOver g h a (r .now) in
-        along _ asks (true-or-false (eqb (status x) 0) (λ z. accepted h a r (eqb-true (status x) 0 z) p) (λ z. refused h r (asked a) x z p))
+        true-or-false (eqb (status x) 0) (λ z. accepted h a r (eqb-true (status x) 0 z) p) (λ z. refused h r (asked a) x z p)
 
     -- a list of calls: refused, the run stays; else its memory is good over h, and the run goes on over h
     stays : (h : Lending) (r : Run (g .n) (g .m) (M g .ops)) (x : Result (Run (h .n) (h .m) (M h .ops))) → eqb (status x) 0 ≡ false → goneOn g h r x ≡ r
     stays h r (done k u) z = absurd (true≢false z)
     stays h r (refuse k) z = refl
 
-    -- what every run keeps says nothing of `curr_i`
-    abbrev placed : ℕ → Run (g .n) (g .m) (M g .ops) → Run (g .n) (g .m) (M g .ops)
-    placed curr r = record { now = withCurr curr (r .now); past = r .past }
+    goes : (h : Lending) (fit : Bool) (cs : List Call) (r : Run (g .n) (g .m) (M g .ops)) → status (listWith g h fit cs (r .now)) ≡ 0 → Keeps r
+        → KeepsOver h (goneOn g h r (listWith g h fit cs (r .now)))
+    unfolding enteredList
+    goes h fit cs r z p =
+        let s = moved g h (r .now) in
+        let e = check.checked-zero (h .n) _ _ _ _ z in
+        let q = carried h r (passed-good (h .n) (h .m) (M h) (h .lits) (h .literals) (h .ends) (F .sound h) fit s (typed-over h r p) e .0) p in
+        let u = run (h .n) (h .m) (M h .ops) (startingWith (h .n) (h .m) (M h .ops) s) cs in
+        let i = ran (h .n) (h .m) (M h .ops) (F .chooser h (q .founded)) (over h r) cs (q .inv) in
+        rw (check.accepted (h .n) _ _ _ (done none u) e)
+        (record { same = q .same; founded = q .founded; inv = rw (F .through h g h (u .now .chooser) ∙ F .self h (u .now .chooser)) (rw (run-past (h .n) (h .m) (M h .ops) cs (over h r)) at i) })
 
-    placed-keeps : (curr : ℕ) (r : Run (g .n) (g .m) (M g .ops)) → Keeps r → Keeps (placed curr r)
+    one-list : (h : Lending) (fit : Bool) (cs : List Call) (r : Run (g .n) (g .m) (M g .ops)) → Keeps r → Keeps (goneOn g h r (listWith g h fit cs (r .now)))
+    one-list h fit cs r p =
+        let x = listWith g h fit cs (r .now) in
+        true-or-false (eqb (status x) 0) (λ z. (h, goes h fit cs r (eqb-true (status x) 0 z) p)) (λ z. subst Keeps (sym (stays h r x z)) p)
+
+    -- a save: what is kept behind a list without calls is kept behind the reading
+    one-save : (h : Lending) (r : Run (g .n) (g .m) (M g .ops)) (x : Result (Run (h .n) (h .m) (M h .ops))) → Keeps (goneOn g h r x) → Keeps (goneOn g h r (mapped readBack x))
+    one-save h r (refuse k) p = p
+    one-save h r (done k u) (w, p) = (w, record { same = p .same; founded = p .founded; inv = read-back (F .chooser w (p .founded)) (over w (goneOn g h r (done k u))) (p .inv) })
+
+    -- what every run keeps says nothing of `curr_i`
+    placed : (curr : ℕ) (r : Run (g .n) (g .m) (M g .ops)) → Keeps r → Keeps (withCurr curr r)
     unfolding recordsOf
-    placed-keeps curr r (w, p) =
+    placed curr r (w, p) =
         let i = p .inv in
         let t = i .good .holds in
         let c = i .claim in (
@@ -180,28 +208,17 @@ module _ (M : Lending → Mode) (into : (g h : Lending) → M g .ops .State → 
           },
         )
 
-    goes : (h : Lending) (curr : ℕ) (fit : Bool) (cs : List Call) (r : Run (g .n) (g .m) (M g .ops)) → status (listWith g h curr fit cs (r .now)) ≡ 0 → Keeps (placed curr r)
-        → KeepsOver h (goneOn g h r (listWith g h curr fit cs (r .now)))
-    unfolding enteredList
-    goes h curr fit cs r z p =
-        let r′ = placed curr r in
-        let s = moved g h (r′ .now) in
-        let e = check.checked-zero (h .n) _ _ _ _ z in
-        let q = carried h r′ (passed-good (h .n) (h .m) (M h) (h .lits) (h .literals) (h .ends) (F .sound h) fit s (typed-over h r′ p) e .0) p in
-        let u = run (h .n) (h .m) (M h .ops) (startingWith (h .n) (h .m) (M h .ops) s) cs in
-        let i = ran (h .n) (h .m) (M h .ops) (F .chooser h (q .founded)) (over h r′) cs (q .inv) in
-        rw (check.accepted (h .n) _ _ _ (done none u) e)
-        (record { same = q .same; founded = q .founded; inv = rw (F .through h g h (u .now .chooser) ∙ F .self h (u .now .chooser)) (rw (run-past (h .n) (h .m) (M h .ops) cs (over h r′)) at i) })
+    one-turn : (r : Run (g .n) (g .m) (M g .ops)) (t : Turn) → Keeps r → Keeps (turn g r t)
+    unfolding turn
+    one-turn r (single h a) p = one-call h a r p
+    one-turn r (listed h fit cs) p = one-list h fit cs r p
+    one-turn r (saved h) p = one-save h r (listWith g h true [] (r .now)) (one-list h true [] r p)
+    one-turn r (propagated curr) p = placed curr r p
 
-    listed : (h : Lending) (curr : ℕ) (fit : Bool) (cs : List Call) (r : Run (g .n) (g .m) (M g .ops)) → Keeps r → Keeps (goneOn g h r (listWith g h curr fit cs (r .now)))
-    listed h curr fit cs r p =
-        let x = listWith g h curr fit cs (r .now) in
-        true-or-false (eqb (status x) 0) (λ z. (h, goes h curr fit cs r (eqb-true (status x) 0 z) (placed-keeps curr r p))) (λ z. subst Keeps (sym (stays h r x z)) p)
-
-    all-listed : (r : Run (g .n) (g .m) (M g .ops)) (lists : List Listed) → Keeps r → Keeps (runLists g r lists)
-    unfolding runLists
-    all-listed r [] p = p
-    all-listed r ((h, curr, fit, cs) ∷ lists) p = all-listed _ lists (listed h curr fit cs r p)
+    along : (r : Run (g .n) (g .m) (M g .ops)) (turns : List Turn) → Keeps r → Keeps (runTurns g r turns)
+    unfolding runTurns
+    along r [] p = p
+    along r (t ∷ turns) p = along (turn g r t) turns (one-turn r t p)
 
     started : FoundedBy g → Keeps (begin (g .n) (g .m) (M g .ops))
     started f = (g, record { same = refl; founded = f; inv = rw (F .self g (begin (g .n) (g .m) (M g .ops) .now .chooser)) (began (g .n) (g .m) (M g .ops) (F .chooser g f)) })
@@ -209,34 +226,19 @@ module _ (M : Lending → Mode) (into : (g h : Lending) → M g .ops .State → 
     claims : (r : Run (g .n) (g .m) (M g .ops)) → Keeps r → Claim (g .n) (g .m) (M g .ops) r
     claims r (w, p) = claim-over (over w r) (r .now .chooser) (p .same) (F .switches w g) (p .inv .claim)
 
-    -- Term 3 of every list of checked calls from a fresh session
-    pub lent-term3 : FoundedBy g → (asks : List (Lending × Asked)) → Claim (g .n) (g .m) (M g .ops) (runLent g (begin (g .n) (g .m) (M g .ops)) asks)
-    lent-term3 f asks =
-        let start = begin (g .n) (g .m) (M g .ops) in
-        claims (runLent g start asks) (along start asks (started f))
-
-    -- and of any number of lists in a row
-    pub lists-term3 : FoundedBy g → (lists : List Listed) → Claim (g .n) (g .m) (M g .ops) (runLists g (begin (g .n) (g .m) (M g .ops)) lists)
-    lists-term3 f lists = let start = begin (g .n) (g .m) (M g .ops) in claims (runLists g start lists) (all-listed start lists (started f))
+    -- Term 3 of every row of turns from a fresh session
+    pub turns-term3 : FoundedBy g → (turns : List Turn) → Claim (g .n) (g .m) (M g .ops) (runTurns g (begin (g .n) (g .m) (M g .ops)) turns)
+    turns-term3 f turns = let start = begin (g .n) (g .m) (M g .ops) in claims (runTurns g start turns) (along start turns (started f))
 
     -- and so from every session that an accepted creation made
     pub made-term3 : (scratch : Bool) (s : SessionOver g) → status (made (g .n) (g .m) (M g) (g .lits) (g .literals) (g .ends) scratch s) ≡ 0
-        → (asks : List (Lending × Asked)) → let u = leaves s (made (g .n) (g .m) (M g) (g .lits) (g .literals) (g .ends) scratch s) in
-        Claim (g .n) (g .m) (M g .ops) (runLent g (startingWith (g .n) (g .m) (M g .ops) u) asks)
+        → (turns : List Turn) → let u = leaves s (made (g .n) (g .m) (M g) (g .lits) (g .literals) (g .ends) scratch s) in
+        Claim (g .n) (g .m) (M g .ops) (runTurns g (startingWith (g .n) (g .m) (M g .ops) u) turns)
     unfolding begin
-    made-term3 scratch s e asks =
-        subst (λ (u : SessionOver g). Claim (g .n) (g .m) (M g .ops) (runLent g (startingWith (g .n) (g .m) (M g .ops) u) asks))
+    made-term3 scratch s e turns =
+        subst (λ (u : SessionOver g). Claim (g .n) (g .m) (M g .ops) (runTurns g (startingWith (g .n) (g .m) (M g .ops) u) turns))
         (sym (made-fresh (g .n) (g .m) (M g) (g .lits) (g .literals) (g .ends) scratch s e))
-        (lent-term3 (made-sizes (g .n) (g .m) (M g) (g .lits) (g .literals) (g .ends) scratch s e) asks)
-
-    pub made-lists-term3 : (scratch : Bool) (s : SessionOver g) → status (made (g .n) (g .m) (M g) (g .lits) (g .literals) (g .ends) scratch s) ≡ 0
-        → (lists : List Listed) → let u = leaves s (made (g .n) (g .m) (M g) (g .lits) (g .literals) (g .ends) scratch s) in
-        Claim (g .n) (g .m) (M g .ops) (runLists g (startingWith (g .n) (g .m) (M g .ops) u) lists)
-    unfolding begin
-    made-lists-term3 scratch s e lists =
-        subst (λ (u : SessionOver g). Claim (g .n) (g .m) (M g .ops) (runLists g (startingWith (g .n) (g .m) (M g .ops) u) lists))
-        (sym (made-fresh (g .n) (g .m) (M g) (g .lits) (g .literals) (g .ends) scratch s e))
-        (lists-term3 (made-sizes (g .n) (g .m) (M g) (g .lits) (g .literals) (g .ends) scratch s e) lists)
+        (turns-term3 (made-sizes (g .n) (g .m) (M g) (g .lits) (g .literals) (g .ends) scratch s e) turns)
 
     -- a result over g, as one over g, is itself
     self-mapped : (x : Result (SessionOver g)) → mapped (moved g g) x ≡ x
@@ -246,18 +248,18 @@ module _ (M : Lending → Mode) (into : (g h : Lending) → M g .ops .State → 
     -- Lent as the session was made, and each with its scratch, checked calls run as the book runs them
     module _ (f : FoundedBy g) (el : length (g .lits) ≡ g .literals) where
       along-book : (r : Run (g .n) (g .m) (M g .ops)) → F .sound g .Good (r .now) → (asks : List Asked) → Each RightScratch asks
-          → runLent g r (allLent g asks) ≡ run (g .n) (g .m) (M g .ops) r (map asked asks)
-      unfolding runLent run step
+          → runTurns g r (allLent g asks) ≡ run (g .n) (g .m) (M g .ops) r (map asked asks)
+      unfolding runTurns turn run step
       along-book r good [] z = refl
       along-book r good (a ∷ asks) z =
           let L = F .sound g in
           let same : enteredWith g g a (r .now) ≡ call (g .n) (g .m) (M g .ops) (r .now) (asked a) =
           rw (self-mapped, F .self g (r .now .chooser)) (unchecked (g .n) (g .m) (M g) (g .lits) (g .literals) (g .ends) L a (r .now) (record { founded = f; stated = el; session = good }) (z .0)) in
-          ap (λ (x : Result (SessionOver g)). runLent g (extended (g .n) (g .m) (M g .ops) r (asked a) x) (allLent g asks)) same
+          ap (λ (x : Result (SessionOver g)). runTurns g (extended (g .n) (g .m) (M g .ops) r (asked a) x) (allLent g asks)) same
           ∙ along-book _ (L .kept (r .now) good (asked a)) asks (z .1)
 
       pub lent-run : (asks : List Asked) → Each RightScratch asks → let start = begin (g .n) (g .m) (M g .ops) in
-          runLent g start (allLent g asks) ≡ run (g .n) (g .m) (M g .ops) start (map asked asks)
+          runTurns g start (allLent g asks) ≡ run (g .n) (g .m) (M g .ops) start (map asked asks)
       unfolding begin
       lent-run asks z = along-book (begin (g .n) (g .m) (M g .ops)) (F .sound g .fresh-good (f .small) (f .stated) (f .clauses)) asks z
 

@@ -101,7 +101,7 @@ opening-few none = omega arith
 opening-few (some o) = need-few (leb (o .vars) maxVars) _ _ (omega arith) (omega arith)
 
 -- the answers to all lines have room where each line has its 24 bytes
-answers-short : (i : ℕ) (stage : Stage) (ls : List (List ℕ)) → i + length ls ≤ 100000 → length (answers i stage ls) ≤ answerRoom * length ls
+pub answers-short : (i : ℕ) (stage : Stage) (ls : List (List ℕ)) → i + length ls ≤ 100000 → length (answers i stage ls) ≤ answerRoom * length ls
 unfolding answers
 answers-short i stage [] h = omega arith
 answers-short i stage (line ∷ ls) h =

@@ -25,7 +25,7 @@ use Rattle.forms.specs.Behind.{behind}
 use Rattle.forms.specs.Lines.{codes-none, codes-behind}
 use Rattle.forms.specs.Short.{listed-short}
 use Rattle.sheet.specs.declared.clauses.Added.{Added}
-use Rattle.sheet.specs.Sheet.{ClauseList, added}
+use Rattle.sheet.specs.Sheet.{ClauseList, added, clauseLines, listed}
 use Rattle.sheet.specs.Stages.{Stage, reading, inHeap, inList, onList, clauseWith, opened, answers}
 use Rattle.sheet.specs.Running.{nextClause, codeCount, ClauseAdded, Slices, Takes}
 
@@ -45,6 +45,11 @@ section-over i mode n lits ends [] e = refl
 section-over i vsids n lits ends (line ∷ ls) e = rw e
 section-over i vmtf n lits ends (line ∷ ls) e = rw e
 
+pub no-clause-line : (ls : List (List ℕ)) → nextClause ls ≡ false → clauseLines ls ≡ []
+unfolding clauseLines
+no-clause-line [] e = refl
+no-clause-line (line ∷ ls) e = rw e
+
 -- the clause list of a stage among the clause lines is good
 abbrev pub GoodStage : Stage → Type 0
 GoodStage (reading mode n lits ends) = GoodClauses n lits ends
@@ -59,6 +64,12 @@ added-good n list g (some codes) =
     true-or-false (clauseFits n (length (list .1)) (length (list .0)) codes)
     (λ e. rw e (clauses-facts n (list .0 ++ codes) (withEnd (list .0) (list .1) codes) .0 (fits-added n (list .0) (list .1) codes (clauses-facts n (list .0) (list .1) .1 g) ∙ e)))
     (λ e. rw e g)
+
+-- and behind all of them
+pub listed-good : (n : ℕ) (cs : List (List ℕ)) (list : ClauseList) → GoodClauses n (list .0) (list .1) → let all = listed n list cs in GoodClauses n (all .0) (all .1)
+unfolding listed
+listed-good n [] list g = g
+listed-good n (line ∷ cs) list g = listed-good n cs _ (added-good n list g (codesIn line))
 
 module _ (mode : Mode) (n : ℕ) (lits ends : List ℕ) where
   -- a clause line has no reply

@@ -1,4 +1,4 @@
--- A call sheet: its answers, the run over its lines that gives them, how answers are written, bounds on them, and the clause lines and session lines as code runs them.
+-- A call sheet: its answers, the run over its lines that gives them, how answers are written, bounds on them, and the first line, clause lines and session lines as code runs them.
 pub mod Sheet
 pub mod Claim
 pub mod Stages
@@ -12,3 +12,5 @@ pub mod ClauseLines
 pub mod Turns
 pub mod Section
 pub mod SessionLines
+pub mod Counting
+pub mod Opening

@@ -13,7 +13,7 @@ use Rattle.forms.specs.Forms.{Mode, beginsClause}
 use Rattle.sheet.specs.declared.Place.{Place}
 use Rattle.sheet.specs.declared.clauses.Added.{Added}
 use Rattle.sheet.specs.declared.clauses.Section.{Section}
-use Rattle.sheet.specs.Stages.{Stage, reading, clauseWith, answers}
+use Rattle.sheet.specs.Stages.{Stage, reading, clauseWith, answers, stageBehind}
 
 -- the lines from a place of the sheet on
 abbrev pub linesFrom : List ℕ → ℕ → List (List ℕ)
@@ -54,6 +54,7 @@ pub record Ended (sheet : List ℕ) (p : Place) (stage : Stage) (out : List ℕ)
 pub record SameEnd (sheet : List ℕ) (p : Place) (s : Stage) (out : List ℕ) (q : Place) (u : Stage) (out′ : List ℕ) : Type 0 where
   pub buffer : finished sheet q u out′ ≡ finished sheet p s out
   pub count : total sheet q u ≡ total sheet p s
+  pub stage : stageBehind u (linesFrom sheet (q .from)) ≡ stageBehind s (linesFrom sheet (p .from))
 
 -- whether a clause line comes next
 abbrev pub nextClause : List (List ℕ) → Bool

@@ -2,7 +2,7 @@
 use Prim.Native.Nat.{ℕ, _+_, _*_, _≤_, _<_}
 use mathlib.Core.Path.{_≡_, refl, sym, ap, subst, _∙_}
 use mathlib.Core.Logic.{by-cases}
-use mathlib.Core.Bool.{true, false≢true}
+use mathlib.Core.Bool.{true, false, false≢true}
 use mathlib.Core.Option.{none}
 use mathlib.Core.List.{List, [], _∷_}
 use native.Mathlib.Omega.{arith}
@@ -12,20 +12,22 @@ use lib.Seq.{length-take-le}
 use Rattle.lit.specs.Numbers.{answerRoom}
 use Rattle.formula.specs.Good.{GoodClauses}
 use Rattle.book.specs.Session.{status, reply}
+use Rattle.forms.specs.Text.{written}
 use Rattle.forms.specs.Forms.{Mode, vsids, beginsClause, codesIn}
+use Rattle.sheet.specs.declared.Place.{Place}
 use Rattle.sheet.specs.declared.clauses.Added.{Added}
 use Rattle.sheet.specs.declared.clauses.Section.{Section}
 use Rattle.sheet.specs.Sheet.{answerLine}
-use Rattle.sheet.specs.Stages.{Stage}
-use Rattle.sheet.specs.Writing.{Wrote, same-room}
+use Rattle.sheet.specs.Stages.{Stage, reading, opened}
+use Rattle.forms.specs.Written.{Wrote, same-room}
 use Rattle.sheet.specs.Bounds.{answer-short, turn-small}
-use Rattle.sheet.specs.Running.{linesFrom, lineLength, lineFrom, after, SameEnd, nextClause, stageOf, clauseOf, ClauseAdded, Takes, Ready, SoFar}
+use Rattle.sheet.specs.Running.{linesFrom, lineLength, lineFrom, after, Room, Ended, SameEnd, nextClause, stageOf, clauseOf, ClauseAdded, Takes, Ready, SoFar}
 use Rattle.sheet.specs.Steps.{same-end, lines-over, line-found, line-inside, lines-more, answer-room, room-behind, end-behind}
-use Rattle.sheet.specs.ClauseLines.{clause-reply, GoodStage, clause-good, codes-short}
+use Rattle.sheet.specs.ClauseLines.{section-over, clause-reply, GoodStage, clause-good, codes-short}
 
 -- no line is answered yet, or one after another
 pub so-far-none : {n : ℕ} {sheet : List ℕ} {s : Section} {out lits ends : List ℕ} → Ready n sheet s out lits ends → SoFar n sheet s out lits ends s out lits ends
-so-far-none ready = record { ready = ready; end = λ mode. record { buffer = refl; count = refl }; out-same = refl; lits-same = refl; ends-same = refl }
+so-far-none ready = record { ready = ready; end = λ mode. record { buffer = refl; count = refl; stage = refl }; out-same = refl; lits-same = refl; ends-same = refl }
 
 pub so-far-more : {n : ℕ} {sheet : List ℕ} {s u v : Section} {out lits ends out′ lits′ ends′ out″ lits″ ends″ : List ℕ}
     → SoFar n sheet s out lits ends u out′ lits′ ends′ → SoFar n sheet u out′ lits′ ends′ v out″ lits″ ends″ → SoFar n sheet s out lits ends v out″ lits″ ends″
@@ -48,7 +50,7 @@ module _ {n : ℕ} {sheet out lits ends : List ℕ} {s : Section} (ready : Ready
       (λ some. some)
       (λ none. absurd (false≢true (sym (ap (λ (ls : List (List ℕ)). nextClause ls) (lines-over (ready .room) (omega arith))) ∙ next)))
 
-  is-clause : beginsClause line ≡ true
+  pub is-clause : beginsClause line ≡ true
   is-clause = sym (ap (λ (ls : List (List ℕ)). nextClause ls) (lines-more (ready .room) clause-more)) ∙ next
 
   -- it has a byte at least, and twice as many as codes, so the slices have room for its clause
@@ -79,13 +81,13 @@ module _ {n : ℕ} {sheet out lits ends : List ℕ} {s : Section} (ready : Ready
     good : GoodClauses n (take (a .literals) lits′) (take (a .clauses) ends′)
     good = subst (λ (u : Stage). GoodStage u) (sym (added vsids .stage)) (clause-good vsids n (take (s .literals) lits) (take (s .clauses) ends) (ready .good) (codesIn line))
 
-    module _ (lits-same : length lits′ ≡ length lits) (ends-same : length ends′ ≡ length ends) {out′ : List ℕ} {k : ℕ} (wrote : Wrote (s .place .at) (answerLine (s .place .line) (a .status) none) out out′ k) where
-      abbrev behind : Section
-      behind = record { place = after (s .place) (s .place .from + lineLength sheet (s .place .from)) k; literals = a .literals; clauses = a .clauses }
+    module _ (lits-same : length lits′ ≡ length lits) (ends-same : length ends′ ≡ length ends) where
+      abbrev behind : ℕ → Section
+      behind k = record { place = after (s .place) (s .place .from + lineLength sheet (s .place .from)) k; literals = a .literals; clauses = a .clauses }
 
-      ready-behind : Ready n sheet behind out′ lits′ ends′
-      ready-behind = record {
-        room = room-behind (ready .room) clause-more wrote short;
+      pub ready-behind : {out′ : List ℕ} {k : ℕ} → Room sheet (behind k .place) out′ → Ready n sheet (behind k) out′ lits′ ends′
+      ready-behind room = record {
+        room = room;
         slices = record {
           lits-short = omega (arith, lits-same, ready .slices .lits-short);
           few-literals = omega (arith, lits-same, added vsids .few-literals);
@@ -97,14 +99,32 @@ module _ {n : ℕ} {sheet out lits ends : List ℕ} {s : Section} (ready : Ready
         good = good;
       }
 
-      end-as-clause : (mode : Mode) → SameEnd sheet (s .place) (stageOf mode n lits ends s) out (behind .place) (stageOf mode n lits′ ends′ behind) out′
-      end-as-clause mode =
-          let x = clauseOf mode n lits ends (s .literals) (s .clauses) (codesIn line) in
-          let w : Wrote (s .place .at) (answerLine (s .place .line) (status x) (reply x)) out out′ k =
-          rw (sym (added mode .status), clause-reply mode n (take (s .literals) lits) (take (s .clauses) ends) (codesIn line)) wrote in
-          subst (λ (u : Stage). SameEnd sheet (s .place) (stageOf mode n lits ends s) out (behind .place) u out′) (sym (added mode .stage))
-          ((rw is-clause at (end-behind (ready .room) clause-more (stageOf mode n lits ends s) {out′ = out′} {k = k})) w)
+      module _ {out′ : List ℕ} {k : ℕ} (wrote : Wrote (s .place .at) (answerLine (s .place .line) (a .status) none) out out′ k) where
+        end-as-clause : (mode : Mode) → SameEnd sheet (s .place) (stageOf mode n lits ends s) out (behind k .place) (stageOf mode n lits′ ends′ (behind k)) out′
+        end-as-clause mode =
+            let x = clauseOf mode n lits ends (s .literals) (s .clauses) (codesIn line) in
+            let w : Wrote (s .place .at) (answerLine (s .place .line) (status x) (reply x)) out out′ k =
+            rw (sym (added mode .status), clause-reply mode n (take (s .literals) lits) (take (s .clauses) ends) (codesIn line)) wrote in
+            subst (λ (u : Stage). SameEnd sheet (s .place) (stageOf mode n lits ends s) out (behind k .place) u out′) (sym (added mode .stage))
+            ((rw is-clause at (end-behind (ready .room) clause-more (stageOf mode n lits ends s) {out′ = out′} {k = k})) w)
 
-      -- the line is answered, and the run goes on behind it
-      pub so-far-one : SoFar n sheet s out lits ends behind out′ lits′ ends′
-      so-far-one = record { ready = ready-behind; end = end-as-clause; out-same = same-room wrote; lits-same = lits-same; ends-same = ends-same }
+        -- the line is answered, and the run goes on behind it
+        pub so-far-one : SoFar n sheet s out lits ends (behind k) out′ lits′ ends′
+        so-far-one = record { ready = ready-behind (room-behind (ready .room) clause-more wrote short); end = end-as-clause; out-same = same-room wrote; lits-same = lits-same; ends-same = ends-same }
+
+-- ---- the end of a run
+
+-- where no clause line comes next, what ends the run from the session on ends it
+module _ (mode : Mode) {n r : ℕ} {sheet lits ends out out′ : List ℕ} {p : Place} where
+  pub session-ended : nextClause (linesFrom sheet (p .from)) ≡ false → Ended sheet p (opened mode n lits ends) out r out′ → Ended sheet p (reading mode n lits ends) out r out′
+  session-ended over x =
+      let e = sym (section-over (p .line) mode n lits ends (linesFrom sheet (p .from)) over) in
+      record { buffer = x .buffer ∙ ap (λ (a : List ℕ). written (p .at) a out) e; count = x .count ∙ ap (λ (a : List ℕ). p .at + length a) e }
+
+-- the clause lines answered, it ends it from the first of them on
+pub section-ended : (mode : Mode) {n r : ℕ} {sheet out lits ends out′ lits′ ends′ out″ : List ℕ} {s u : Section} → SoFar n sheet s out lits ends u out′ lits′ ends′
+    → nextClause (linesFrom sheet (u .place .from)) ≡ false → Ended sheet (u .place) (opened mode n (take (u .literals) lits′) (take (u .clauses) ends′)) out′ r out″
+    → Ended sheet (s .place) (stageOf mode n lits ends s) out r out″
+section-ended mode so over x =
+    let y = session-ended mode over x in
+    record { buffer = y .buffer ∙ so .end mode .buffer; count = y .count ∙ so .end mode .count }

@@ -16,10 +16,11 @@ use Rattle.forms.specs.Text.{written}
 use Rattle.forms.specs.Forms.{callIn}
 use Rattle.sheet.specs.declared.Place.{Place}
 use Rattle.sheet.specs.Sheet.{answerLine}
-use Rattle.sheet.specs.Stages.{Stage, meets, turn, answers}
-use Rattle.sheet.specs.Writing.{Wrote, same-room, replyOf}
+use Rattle.sheet.specs.Stages.{Stage, meets, turn, answers, stageBehind}
+use Rattle.forms.specs.Written.{Wrote, same-room}
+use Rattle.sheet.specs.Writing.{replyOf}
 use Rattle.sheet.specs.Bounds.{Small, answer-short, status-small, answer-text}
-use Rattle.sheet.specs.Running.{lineLength, lineFrom, after, Room, Ended, SameEnd}
+use Rattle.sheet.specs.Running.{linesFrom, lineLength, lineFrom, after, Room, Ended, SameEnd}
 use Rattle.sheet.specs.Steps.{same-end, lines-over, answer-room, room-behind, end-behind}
 
 -- Lines of a session are answered, from s on up to u: there is room for the rest, u is good, and the run comes to the same end from there.
@@ -32,7 +33,7 @@ pub record Along {S : Type 0} (Good : S → Type 0) (stage : S → Stage) (sheet
 module _ {S : Type 0} {Good : S → Type 0} {stage : S → Stage} {sheet : List ℕ} where
   -- no line is answered yet, or one after another, or all of them
   pub along-none : {p : Place} {s : S} {out : List ℕ} → Room sheet p out → Good s → Along Good stage sheet p s out p s out
-  along-none room good = record { room = room; good = good; end = record { buffer = refl; count = refl }; out-same = refl }
+  along-none room good = record { room = room; good = good; end = record { buffer = refl; count = refl; stage = refl }; out-same = refl }
 
   pub along-more : {p q r : Place} {s u v : S} {out out′ out″ : List ℕ} → Along Good stage sheet p s out q u out′ → Along Good stage sheet q u out′ r v out″ → Along Good stage sheet p s out r v out″
   along-more a b = record { room = b .room; good = b .good; end = same-end (a .end) (b .end); out-same = b .out-same ∙ a .out-same }
@@ -44,6 +45,11 @@ module _ {S : Type 0} {Good : S → Type 0} {stage : S → Stage} {sheet : List 
         buffer = rw e at (a .end .buffer);
         count = omega (arith, a .end .count, ap (λ (ls : List (List ℕ)). length (answers (q .line) (stage u) ls)) e);
       }
+
+  -- and then u is the session behind them
+  pub along-last : {p q : Place} {s u : S} {out out′ : List ℕ} → Along Good stage sheet p s out q u out′ → q .left ≡ 0 → stage u ≡ stageBehind (stage s) (linesFrom sheet (p .from))
+  unfolding stageBehind
+  along-last {u = u} a over = let e = lines-over (a .room) over in (rw e at (a .end .stage))
 
 -- where no line is left, a run has ended, and the buffer stays
 pub nothing-left : {sheet out : List ℕ} {p : Place} (stage : Stage) → Room sheet p out → p .left ≡ 0 → Ended sheet p stage out (p .at) out

@@ -12,8 +12,8 @@ use Rattle.choosers.specs.Heap.{heapOps}
 use Rattle.choosers.specs.List.{listOps}
 use Rattle.book.specs.Calls.{Call, Line}
 use Rattle.book.specs.Chooser.{Operations}
-use Rattle.book.specs.Session.{Result, done, refuse, status, leaves, need}
-use Rattle.book.specs.Claim.{log, begin, run}
+use Rattle.book.specs.Session.{Result, done, refuse, status, leaves, need, Session, fresh}
+use Rattle.book.specs.Claim.{log, startingWith, run}
 use Rattle.book.specs.Read.{callsOf}
 use Rattle.forms.specs.Letters.{dash}
 use Rattle.forms.specs.Text.{tab, newline, lines, occurs, digits}
@@ -36,9 +36,9 @@ logged i (none ∷ cs) ls = answerLine i badLine none ++ logged (i + 1) cs ls
 logged i (some c ∷ cs) [] = []
 logged i (some c ∷ cs) (l ∷ ls) = answerLine i (l .status) (l .reply) ++ logged (i + 1) cs ls
 
--- 'The session is made fresh once these are read': the log of a run of the book, the oldest first
-abbrev pub sessionAnswers : (n m : ℕ) (O : Operations) → ℕ → List (Option Call) → List ℕ
-sessionAnswers n m O i cs = logged i cs (reverse (log ((run n m O (begin n m O) (callsOf cs)) .past)))
+-- the answers of a session: the log of a run of the book that starts with it, the oldest first
+abbrev pub sessionAnswers : (n m : ℕ) (O : Operations) → Session n m O → ℕ → List (Option Call) → List ℕ
+sessionAnswers n m O s i cs = logged i cs (reverse (log ((run n m O (startingWith n m O s) (callsOf cs)) .past)))
 
 -- literals and ends of a clause list, and the chooser over them
 abbrev pub ClauseList : Type 0
@@ -66,12 +66,14 @@ unfoldable pub clauseAnswers : ℕ → ℕ → ClauseList → List (List ℕ) �
 clauseAnswers n i list [] = []
 clauseAnswers n i list (line ∷ ls) = let x = added n list (codesIn line) in answerLine i (status x) none ++ clauseAnswers n (i + 1) (leaves list x) ls
 
--- behind the first line, from the i-th on: clause lines, then the session's
+-- behind the first line, from the i-th on: clause lines, then the session's. 'The session is made fresh once these are read'
 unfoldable pub behindFirst : Mode → ℕ → ℕ → ClauseList → List (List ℕ) → List ℕ
 behindFirst mode n i start ls =
     let cs = clauseLines ls in
     let list = listed n start cs in
-    clauseAnswers n i start cs ++ sessionAnswers n (length (list .1)) (chooserOf mode n list) (i + length cs) (map callIn (drop (length cs) ls))
+    let m = length (list .1) in
+    let O = chooserOf mode n list in
+    clauseAnswers n i start cs ++ sessionAnswers n m O (fresh n m O) (i + length cs) (map callIn (drop (length cs) ls))
 
 -- the first line: 3 by its form, 4 above 2,048 variables
 abbrev pub opening : Option Opening → Result Opening

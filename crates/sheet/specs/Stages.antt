@@ -61,6 +61,11 @@ answers i stage (line ∷ ls) =
     let x = turn at line in
     answerLine i (status x) (reply x) ++ answers (i + 1) (leaves at x) ls
 
+-- and the stage behind them
+unfoldable pub stageBehind : Stage → List (List ℕ) → Stage
+stageBehind stage [] = stage
+stageBehind stage (line ∷ ls) = let at = meets stage line in stageBehind (leaves at (turn at line)) ls
+
 -- the answers to a sheet whose first line came to x
 abbrev pub started : Result Opening → List (List ℕ) → List ℕ
 started x ls = fromFirst x (λ o. answers 2 (onList (o .mode) (o .vars) ([], [])) ls)

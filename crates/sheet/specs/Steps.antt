@@ -12,12 +12,12 @@ use Rattle.forms.specs.Text.{newline, lines, occurs, find}
 use Rattle.forms.specs.TextLaws.{occurs-found, occurs-next, lines-next, lines-end, written-append}
 use Rattle.sheet.specs.declared.Place.{Place}
 use Rattle.sheet.specs.Sheet.{answerLine}
-use Rattle.sheet.specs.Stages.{Stage, meets, turn, answers}
-use Rattle.sheet.specs.Writing.{Wrote, same-room}
+use Rattle.sheet.specs.Stages.{Stage, meets, turn, answers, stageBehind}
+use Rattle.forms.specs.Written.{Wrote, same-room}
 use Rattle.sheet.specs.Running.{linesFrom, lineLength, lineFrom, after, Room, SameEnd}
 
 pub same-end : {sheet : List ℕ} {p q r : Place} {s u v : Stage} {out out′ out″ : List ℕ} → SameEnd sheet p s out q u out′ → SameEnd sheet q u out′ r v out″ → SameEnd sheet p s out r v out″
-same-end a b = record { buffer = b .buffer ∙ a .buffer; count = b .count ∙ a .count }
+same-end a b = record { buffer = b .buffer ∙ a .buffer; count = b .count ∙ a .count; stage = b .stage ∙ a .stage }
 
 -- a part of k elements
 pub part-of : (a k : ℕ) (l : List ℕ) → take (a + k - a) (drop a l) ≡ take k (drop a l)
@@ -68,7 +68,7 @@ module _ {sheet : List ℕ} {p : Place} {out : List ℕ} (room : Room sheet p ou
     pub end-behind : (stage : Stage) {out′ : List ℕ} {k : ℕ} → let line = lineFrom sheet (p .from) in let x = turn (meets stage line) line in
         Wrote (p .at) (answerLine (p .line) (status x) (reply x)) out out′ k
         → SameEnd sheet p stage out (after p (p .from + lineLength sheet (p .from)) k) (leaves (meets stage line) x) out′
-    unfolding answers
+    unfolding answers stageBehind
     end-behind stage wrote =
         let line = lineFrom sheet (p .from) in
         let x = turn (meets stage line) line in
@@ -77,4 +77,5 @@ module _ {sheet : List ℕ} {p : Place} {out : List ℕ} (room : Room sheet p ou
         record {
           buffer = rw (lines-more, written-append (p .at) a rest out, wrote .buffer, wrote .place);
           count = rw (lines-more, length-append a rest) (omega (arith, wrote .place));
+          stage = rw lines-more;
         }

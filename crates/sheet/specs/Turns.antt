@@ -15,7 +15,7 @@ use Rattle.book.specs.Calls.{Call, Line}
 use Rattle.book.specs.Chooser.{Operations}
 use Rattle.book.specs.Session.{Result, done, refuse, status, reply, leaves, logLine, Session, fresh, call}
 use Rattle.book.specs.Mapped.{mapped-status, mapped-reply, mapped-leaves}
-use Rattle.book.specs.Claim.{Run, begin, step}
+use Rattle.book.specs.Claim.{Run, startingWith, step}
 use Rattle.book.specs.Read.{called, logLines, logs}
 use Rattle.forms.specs.Forms.{Mode, vsids, vmtf, Opening, callIn, codesIn, beginsClause, firstIn}
 use Rattle.sheet.specs.Sheet.{answerLine, logged, sessionAnswers, ClauseList, chooserOf, added, clauseLines, listed, clauseAnswers, behindFirst, opening, fromFirst, answered}
@@ -41,20 +41,28 @@ module _ (n m : ℕ) (O : Operations) where
         go none ih = ap (λ (bs : List ℕ). answerLine i badLine none ++ bs) (ih r (i + 1))
         go (some c) ih = let x = call n m O (r .now) c in ap (λ (bs : List ℕ). answerLine i (status x) (reply x) ++ bs) (ih (step n m O r c) (i + 1))
 
-    session : Answers → (i : ℕ) (ls : List (List ℕ)) → answers i (stage (fresh n m O)) ls ≡ sessionAnswers n m O i (map callIn ls)
-    unfolding begin
-    session a i ls = tells a ls (begin n m O) i ∙ ap (λ (log : List Line). logged i (map callIn ls) log) (sym (logs n m O (map callIn ls) (begin n m O)))
+    session : Answers → (s : Session n m O) (i : ℕ) (ls : List (List ℕ)) → answers i (stage s) ls ≡ sessionAnswers n m O s i (map callIn ls)
+    session a s i ls = let r = startingWith n m O s in tells a ls r i ∙ ap (λ (log : List Line). logged i (map callIn ls) log) (sym (logs n m O (map callIn ls) r))
 
 -- in either mode
-opened-answers : (mode : Mode) (n : ℕ) (list : ClauseList) (i : ℕ) (ls : List (List ℕ))
-    → answers i (opened mode n (list .0) (list .1)) ls ≡ sessionAnswers n (length (list .1)) (chooserOf mode n list) i (map callIn ls)
+pub heap-answers : (n : ℕ) (lits ends : List ℕ) (s : Session n (length ends) (heapOps n lits ends)) (i : ℕ) (ls : List (List ℕ))
+    → answers i (inHeap n lits ends s) ls ≡ sessionAnswers n (length ends) (heapOps n lits ends) s i (map callIn ls)
 unfolding answers
-opened-answers vsids n (lits, ends) i ls = session n (length ends) (heapOps n lits ends) (inHeap n lits ends) (λ s i line ls.
+heap-answers n lits ends = session n (length ends) (heapOps n lits ends) (inHeap n lits ends) (λ s i line ls.
     let x = called n (length ends) (heapOps n lits ends) s (callIn line) in
-    rw (mapped-status (inHeap n lits ends) x, mapped-reply (inHeap n lits ends) x, mapped-leaves (inHeap n lits ends) s x)) i ls
-opened-answers vmtf n (lits, ends) i ls = session n (length ends) (listOps n lits) (inList n lits ends) (λ s i line ls.
+    rw (mapped-status (inHeap n lits ends) x, mapped-reply (inHeap n lits ends) x, mapped-leaves (inHeap n lits ends) s x))
+
+pub list-answers : (n : ℕ) (lits ends : List ℕ) (s : Session n (length ends) (listOps n lits)) (i : ℕ) (ls : List (List ℕ))
+    → answers i (inList n lits ends s) ls ≡ sessionAnswers n (length ends) (listOps n lits) s i (map callIn ls)
+unfolding answers
+list-answers n lits ends = session n (length ends) (listOps n lits) (inList n lits ends) (λ s i line ls.
     let x = called n (length ends) (listOps n lits) s (callIn line) in
-    rw (mapped-status (inList n lits ends) x, mapped-reply (inList n lits ends) x, mapped-leaves (inList n lits ends) s x)) i ls
+    rw (mapped-status (inList n lits ends) x, mapped-reply (inList n lits ends) x, mapped-leaves (inList n lits ends) s x))
+
+opened-answers : (mode : Mode) (n : ℕ) (list : ClauseList) (i : ℕ) (ls : List (List ℕ)) → let m = length (list .1) in let O = chooserOf mode n list in
+    answers i (opened mode n (list .0) (list .1)) ls ≡ sessionAnswers n m O (fresh n m O) i (map callIn ls)
+opened-answers vsids n (lits, ends) i ls = heap-answers n lits ends (fresh n (length ends) (heapOps n lits ends)) i ls
+opened-answers vmtf n (lits, ends) i ls = list-answers n lits ends (fresh n (length ends) (listOps n lits)) i ls
 
 -- ---- the clause lines
 module _ (mode : Mode) (n : ℕ) where

@@ -7,6 +7,7 @@ ghost use Prim.Native.Nat.{ℕ, _+_, _*_, _≤_, _<_};
 ghost use lib.ListN.{length, take, drop};
 ghost use Rattle.forms.specs.Forms.{Mode, codesIn};
 ghost use Rattle.sheet.specs.Running.{linesFrom, Room, nextClause, ClauseAdded, Slices, Takes, Ready, SoFar};
+ghost use Rattle.sheet.specs.Counting.{listedFrom, Counted};
 use crate::Place;
 use crate::answer;
 use crate::behind;
@@ -140,6 +141,43 @@ pub fn clause_lines(
     let mut u = s;
     while next_is_clause(sheet, u.place) {
         u = clause_step(sheet, out, n, lits, ends, u);
+    }
+    u
+}
+
+// Reads one clause line and does not answer it.
+fn count_step(sheet: &[u8], n: u32, lits: &mut [u32], ends: &mut [u32], s: Section) -> Section
+    requires { ⌜ ((out : List ℕ) × Ready n (now sheet) s out (now lits) (now ends)) × (nextClause (linesFrom (now sheet) (s .place .from)) ≡ true) ⌝ }
+    ensures { λ r. ⌜ r .place .left < s .place .left ⌝ }
+    ensures { λ r. ⌜ ((out : List ℕ) → Ready n (now (sheet .entry)) s out (now (lits .entry)) (now (ends .entry))
+        → Counted n (now (sheet .entry)) out s (now (lits .entry)) (now (ends .entry)) r (now (lits .exit)) (now (ends .exit))) ⌝ }
+{
+    let p = s.place;
+    let from = p.from;
+    let end = from + forms::text::find(&sheet[from..], NEWLINE);
+    let a = clause_line(&sheet[from..end], n, lits, ends, s.literals, s.clauses);
+    let q = behind(p, end, p.at);
+    Section {
+        place: q,
+        literals: a.literals,
+        clauses: a.clauses,
+    }
+}
+
+// Counts the literals and the clauses of the list that the clause lines make, and answers none of them.
+pub fn count_clauses(
+    sheet: &[u8],
+    n: u32,
+    lits: &mut [u32],
+    ends: &mut [u32],
+    s: Section,
+) -> Section
+    requires { ⌜ ((out : List ℕ) × Ready n (now sheet) s out (now lits) (now ends)) ⌝ }
+    ensures { λ r. let list = listedFrom n (now (sheet .entry)) (now (lits .entry)) (now (ends .entry)) s in ⌜ (r .literals ≡ length (list .0)) × (r .clauses ≡ length (list .1)) ⌝ }
+{
+    let mut u = s;
+    while next_is_clause(sheet, u.place) {
+        u = count_step(sheet, n, lits, ends, u);
     }
     u
 }

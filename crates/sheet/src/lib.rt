@@ -4,7 +4,8 @@ ghost use Prim.Native.Nat.{_+_, _≤_, _<_};
 ghost use lib.ListN.{length};
 ghost use Rattle.lit.specs.Numbers.{maxSheet};
 ghost use Rattle.sheet.specs.Sheet.{answerLine};
-ghost use Rattle.sheet.specs.Writing.{replyOf, field, ending, Wrote};
+ghost use Rattle.forms.specs.Written.{Wrote};
+ghost use Rattle.sheet.specs.Writing.{replyOf, field, ending};
 ghost use Rattle.sheet.specs.Running.{after};
 use forms::letters::DASH;
 use forms::text::NEWLINE;
@@ -18,7 +19,7 @@ fn put_field(out: &mut [u8], at: usize, v: u32) -> usize
     requires { ⌜ at + length (field v) ≤ length (now out) ⌝ }
     ensures { λ r. ⌜ Wrote at (field v) (now (out .entry)) (now (out .exit)) r ⌝ }
 {
-    let k = forms::text::put_number(out, at, v);
+    let k = forms::text::put_number(out, at, v as u64);
     out[k] = TAB;
     k + 1
 }
@@ -33,7 +34,7 @@ fn put_ending(out: &mut [u8], at: usize, reply: u32) -> usize
         out[at + 1] = NEWLINE;
         return at + 2;
     }
-    let k = forms::text::put_number(out, at, reply);
+    let k = forms::text::put_number(out, at, reply as u64);
     out[k] = NEWLINE;
     k + 1
 }

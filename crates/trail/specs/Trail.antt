@@ -26,7 +26,7 @@ unfoldable pub freshTrail : ℕ → Trail
 freshTrail n = record { values = replicate n unassigned; levels = replicate n NONE; reasons = replicate n NONE; trail = replicate n NONE; opened = replicate n NONE; len = 0; level = 0; curr = 0 }
 
 -- the same trail with these values, levels and reasons; with these codes, so many in use; with these opened levels, this level and `curr_i`
-abbrev withVars : List ℕ → List ℕ → List ℕ → Trail → Trail
+abbrev pub withVars : List ℕ → List ℕ → List ℕ → Trail → Trail
 withVars values levels reasons t = record { values = values; levels = levels; reasons = reasons; trail = t .trail; opened = t .opened; len = t .len; level = t .level; curr = t .curr }
 
 abbrev withCodes : List ℕ → ℕ → Trail → Trail

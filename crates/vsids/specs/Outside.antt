@@ -8,8 +8,8 @@ use native.Mathlib.Decide.{ℕ-discrete, decLt}
 use native.Mathlib.Omega.{arith}
 use lib.Dec.{eqb}
 use lib.ListN.{length, getD}
-use borrow.Author.Tests.{eqb-true, eq-eqb, ne-eqb, lt-ltb, not-true}
-use Rattle.laws.specs.Tests.{and-left, and-right, and-both, same-test, not-true as never}
+use borrow.Author.Tests.{eqb-true, eq-eqb, ne-eqb, lt-ltb}
+use Rattle.laws.specs.Tests.{and-left, and-right, and-both, same-test}
 use Rattle.laws.specs.Every.{every, every-at, every-all}
 use Rattle.laws.specs.Some.{count}
 use Rattle.laws.specs.Pigeonhole.{Distinct}

@@ -15,7 +15,7 @@ use Rattle.book.specs.Chooser.{Operations}
 use Rattle.session.specs.Asked.{Lending}
 use Rattle.session.specs.Entry.{replyNumber}
 use Rattle.session.specs.Mode.{Mode, enteredList}
-use Rattle.session.specs.Runs.{Listed}
+use Rattle.session.specs.Runs.{Turn, listed}
 use Rattle.forms.specs.Forms.{Kind, kindOf, bumps, decays, setsDecay, inserts, switchesOff, decides, enqueues, learnsUnit, goesBack, bumpsReason, movesGroup, isClause, isFirst, isOther}
 use Rattle.forms.specs.Read.{numbered}
 
@@ -81,14 +81,13 @@ module _ (n m : ℕ) (M : Mode) (lits : List ℕ) (literals : ℕ) (ends : List 
       let rest = eachAlone ws (first .0) in
       (rest .0, first .1 ++ rest .1)
 
--- a list as it is lent: the clause list with its counts, `curr_i`, the variables of groups, the words, and how many words of answers
+-- a list as it is lent: the clause list with its counts, the variables of groups, the words, and how many words of answers
 pub record Handed : Type 0 where
   pub lent : Lending
-  pub curr : ℕ
   pub vars : List ℕ
   pub words : List ℕ
   pub answers : ℕ
 
--- what `enteredList` gets of it, as `enteredWords` has it
-abbrev pub handed : Handed → Listed
-handed h = (h .lent, h .curr, wordsFit (length (h .words)) (h .answers), callsOf (callsIn (h .vars) (h .words)))
+-- the turn that it is: what `enteredList` gets of it, as `enteredWords` has it
+abbrev pub handed : Handed → Turn
+handed h = listed (h .lent) (wordsFit (length (h .words)) (h .answers)) (callsOf (callsIn (h .vars) (h .words)))

@@ -3,7 +3,8 @@ use mathlib.Core.Path.{sym, _∙_}
 use native.Mathlib.Omega.{arith}
 use Rattle.forms.specs.Text.{newline}
 use Rattle.forms.specs.TextLaws.{occurs-length}
-use Rattle.desk.specs.Ran.{ran-long, ran-no-room, ran-answers, ran-none, start-room, few-bytes}
+use Rattle.sheet.specs.Opening.{start-room}
+use Rattle.desk.specs.Ran.{ran-long, ran-no-room, ran-answers, ran-none, few-bytes}
 use borrow.Author.Needs.{needs}
 use Rattle.desk.proofs.run.Statement.{statement}
 use Rattle.desk.proofs.run.Tie as tie
@@ -30,7 +31,7 @@ answer-all-requires : tie.Need-answer-all-requires
 answer-all-requires c κs =
     let s = c .before .before .before .before .before .before .before .before .before in
     let count = c .before .before .before .before .occurs .ensures in
-    rw count (start-room (s .args .sheet .now) (s .args .out .now) (s .args .positions .now) (c .before .before .before .before .before .if1 .left) (rw count at (c .before .before .before .if2 .left)), omega (arith, count, c .before .before .if3 .left))
+    rw count (start-room (s .args .sheet .now) (s .args .out .now) (c .before .before .before .before .before .if1 .left) (rw count at (c .before .before .before .if2 .left)), omega (arith, count, c .before .before .if3 .left))
 
 cast-result : tie.Need-cast-result
 cast-result c = omega (arith, c .before .before .before .before .answer-all .ensures .0 .place, few-bytes (c .before .before .before .before .before .before .before .before .before .before .before .before .before .before .args .sheet .now) (c .before .before .before .before .before .before .before .before .before .before .if1 .left))

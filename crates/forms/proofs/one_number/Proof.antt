@@ -9,6 +9,7 @@ use Rattle.forms.specs.Text.{number}
 use Rattle.forms.specs.TextRead.{wholeOf}
 use Rattle.forms.specs.Forms.{one}
 use Rattle.forms.specs.Behind.{tabbed-long, untabbed}
+use Rattle.lit.specs.Numbers.{NONE}
 use Rattle.forms.specs.Laws.{number-tab}
 use Rattle.laws.specs.Parts.{to-end}
 use Rattle.forms.specs.Lines.{one-behind}
@@ -26,7 +27,7 @@ returns-2 c =
     let line = c .before .before .before .before .before .args .line .now in
     c .number .ensures
     ∙ ap (λ (bs : List ℕ). wholeOf (number bs)) (to-end 2 line)
-    ∙ sym (ap wholeOf (one-behind line (sym (c .before .before .before .has-fields .ensures) ∙ not-false _ (c .before .before .if1 .left)) number number-tab))
+    ∙ sym (ap wholeOf (one-behind line (sym (c .before .before .before .has-fields .ensures) ∙ not-false _ (c .before .before .if1 .left)) number (number-tab NONE)))
 
 pub one-number-spec : {M : Type 1} → statement M
 one-number-spec = tie.close (tie.spec (λ c κs. search needs) returns long long (λ c. search needs) (λ c κs. search needs) returns-2)

@@ -5,9 +5,11 @@ use mathlib.Core.Option.{some}
 use native.Mathlib.Omega.{arith}
 use borrow.Author.Needs.{needs}
 use lib.ListN.{length, take, drop, length-drop}
+use Rattle.lit.specs.Numbers.{NONE}
 use Rattle.forms.specs.Text.{tab, find, number}
 use Rattle.forms.specs.TextLaws.{find-length}
 use Rattle.forms.specs.Counting.{SoFar, so-far-none, count-bad, count-last, count-next}
+use Rattle.forms.specs.Words.{number-within}
 use Rattle.forms.specs.Told.{field-is, field-bad}
 use Rattle.forms.proofs.read_numbers.Statement.{statement}
 use Rattle.forms.proofs.read_numbers.Tie as tie
@@ -44,6 +46,9 @@ returns : tie.Need-returns Inv-loop μ-loop
 returns c =
     let l = c .before .before .before in
     count-bad (l .before .before .before .args .bytes .now) (l .loop .out) (l .loop .n) (l .loop .at) (l .loop .inv .1) (field-bad _ _ (sym (c .before .before .number-at .ensures) ∙ c .enum-told .given .1))
+
+cast-put : tie.Need-cast-put Inv-loop μ-loop
+cast-put c = omega (arith, number-within NONE _ _ (told (c .before .before) .0))
 
 add-n : tie.Need-add-n Inv-loop μ-loop
 add-n c = omega (arith, c .before .before .before .before .before .before .before .before .loop .inv .1 .few, c .before .before .before .before .before .before .before .before .loop .inv .1 .within, c .before .before .before .before .before .before .before .before .before .before .before .good)
@@ -83,11 +88,13 @@ read-numbers-spec =
     Inv-loop
     μ-loop
     loop-holds
+    (λ c. search needs)
     number-at-requires
     (λ c. search needs)
     enum-told
     same-length
     returns
+    cast-put
     (λ c κs. search needs)
     add-n
     same-length-2

@@ -5,6 +5,7 @@ use native.Mathlib.Omega.{arith}
 use borrow.Author.Tests.{not-true}
 use Rattle.sheet.specs.Stages.{Stage}
 use Rattle.sheet.specs.Running.{Ended}
+use Rattle.sheet.specs.SessionLines.{along-over}
 use Rattle.heap_sheet.specs.Start.{started-heap, started-opened, started-good, started-sized, started-lengths, started-passes}
 use Rattle.heap_sheet.proofs.from_fresh.Statement.{statement}
 use Rattle.heap_sheet.proofs.from_fresh.Tie as tie
@@ -38,7 +39,7 @@ returns-2 c =
     let s = c .before .before .before .before .before .before .before .before .before .before .before .before .before .before .before .before .before .before .before .before .before .before .before .before .before .before .before .before .before .before .before .before .before .before .before .before .before .before .before .before .before .before .before .before .before .before .before .before .before .before .before .before .before .before .before .before .before .before .before .before .before .before in
     let h = started-heap (s .pre .1 .1 .0) (s .pre .1 .1 .3) (s .pre .1 .1 .1) (c .before .before .before .before .before .before .before .before .before .before .before .before .before .before .before .before .before .before .before .before .before .before .before .before .before .before .before .before .before .before .before .before .before .before .before .before .before .before .before .before .before .before .before .before .before .before .all-members .ensures) in
     let l = c .before .before .before .before .before .before .before .before .before .before .before .before .before .before .before .before .before .before .before .before .heap-lines in
-    subst (λ (x : Stage). Ended (s .args .sheet .now) (s .args .p) x (s .args .out .now) (l .result) (l .last .1 .0)) (started-opened (s .args .n) (s .args .lits .now) (s .args .ends .now) (s .pre .1 .0) h) (l .ensures)
+    subst (λ (x : Stage). Ended (s .args .sheet .now) (s .args .p) x (s .args .out .now) (l .result .place .at) (l .last .1 .0)) (started-opened (s .args .n) (s .args .lits .now) (s .args .ends .now) (s .pre .1 .0) h) (along-over (l .ensures .1) (l .ensures .0))
 
 pub from-fresh-spec : {M : Type 1} → statement M
 from-fresh-spec =

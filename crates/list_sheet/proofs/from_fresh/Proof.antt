@@ -3,6 +3,7 @@ use mathlib.Core.Path.{sym, _∙_}
 use mathlib.Core.Bool.{false≢true}
 use native.Mathlib.Omega.{arith}
 use borrow.Author.Tests.{not-true}
+use Rattle.sheet.specs.SessionLines.{along-over}
 use Rattle.list_sheet.specs.Start.{clause-literals, started-good, started-ended}
 use Rattle.list_sheet.proofs.from_fresh.Statement.{statement}
 use Rattle.list_sheet.proofs.from_fresh.Tie as tie
@@ -29,7 +30,7 @@ returns-2 : tie.Need-returns-2
 returns-2 c =
     let s = c .before .before .before .before .before .before .before .before .before .before .before .before .before .before .before .before .before .before .before .before .before .before .before .before .before .before .before .before .before .before .before .before .before .before .before .before .before .before .before .before .before .before .before .before .before .before .before .before .before .before .before .before .before .before .before .before .before .before .before .before .before .before .before .before .before .before .before .before in
     let a = c .before .before .before .before .before .before .before .before .before .before .before .before .before .before .before .before .before .before .before .before .before .before .before .before .before .before .before .before .before .before .before .before .before .before .before .before .before .before .before .before .before .before .before .before .before .before .before .start in
-    started-ended (s .args .lits .now) (s .pre .0 .1) (a .ensures .0) (a .ensures .1 .0) (s .args .ends .now) (c .before .before .before .before .before .before .before .before .before .before .before .before .before .before .before .before .before .before .list-lines .ensures (s .args .lits .now))
+    started-ended (s .args .lits .now) (s .pre .0 .1) (a .ensures .0) (a .ensures .1 .0) (s .args .ends .now) (let l = c .before .before .before .before .before .before .before .before .before .before .before .before .before .before .before .before .before .before .list-lines in along-over (l .ensures .1 (s .args .lits .now)) (l .ensures .0))
 
 pub from-fresh-spec : {M : Type 1} → statement M
 from-fresh-spec =

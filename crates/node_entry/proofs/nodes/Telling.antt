@@ -14,7 +14,7 @@ use Rattle.node_entry.specs.Fields.{sizeStatus, first-for-all}
 use Rattle.node_entry.specs.Nodes.{nexts, prevs, tss}
 use Rattle.node_entry.specs.declared.nodes.Node.{Node}
 use Rattle.node_entry.proofs.nodes.Copying.{Copied, Written}
-use Rattle.node_entry.proofs.nodes.Passing.{Params, Lists, values′, levels′, reasons′, trail′, opened′, v₁, v₂, v₃}
+use Rattle.node_entry.proofs.nodes.Parameters.{Params, Lists, values′, levels′, reasons′, trail′, opened′, v₁, v₂, v₃}
 
 module _ (P : Params) where
   abbrev Sessions : Type 0

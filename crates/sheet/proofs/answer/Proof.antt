@@ -6,7 +6,8 @@ use mathlib.Core.List.{_++_}
 use native.Mathlib.Omega.{arith}
 use lib.ListN.{length, length-append}
 use Rattle.sheet.specs.Sheet.{answerLine}
-use Rattle.sheet.specs.Writing.{put-more, same-room, replyOf, field, ending, answer-pieces}
+use Rattle.forms.specs.Written.{put-more, same-room}
+use Rattle.sheet.specs.Writing.{replyOf, field, ending, answer-pieces}
 use borrow.Author.Needs.{needs}
 use Rattle.sheet.proofs.answer.Statement.{statement}
 use Rattle.sheet.proofs.answer.Tie as tie

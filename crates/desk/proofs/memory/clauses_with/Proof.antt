@@ -1,7 +1,8 @@
 -- `desk::memory::clauses_with` meets its contract: what the session's lines end, the clause lines before them end too.
 use mathlib.Core.Path.{sym, _∙_}
 use lib.Seq.{length-take-le}
-use Rattle.desk.specs.Memory.{modeOf, ready-first, section-ended}
+use Rattle.sheet.specs.Opening.{modeOf, ready-first}
+use Rattle.sheet.specs.Section.{section-ended}
 use borrow.Author.Needs.{needs}
 use Rattle.desk.proofs.memory.clauses_with.Statement.{statement}
 use Rattle.desk.proofs.memory.clauses_with.Tie as tie

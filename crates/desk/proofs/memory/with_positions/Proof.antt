@@ -1,7 +1,7 @@
 -- `desk::memory::with_positions` meets its contract: of the lent positions the session gets those that it needs, and the others stay as they were.
 use mathlib.Core.Path.{sym}
 use lib.Seq.{length-take-le}
-use Rattle.desk.specs.Memory.{openingAt}
+use Rattle.sheet.specs.Opening.{openingAt}
 use Rattle.desk.specs.Positions.{used-front, front-enough}
 use borrow.Author.Needs.{needs}
 use Rattle.desk.proofs.memory.with_positions.Statement.{statement}

@@ -1,6 +1,7 @@
 -- `desk::memory::without_clauses` meets its contract: the session's lines are all.
 use mathlib.Core.Path.{refl}
-use Rattle.desk.specs.Memory.{modeOf, session-ended, no-clauses}
+use Rattle.sheet.specs.Opening.{modeOf, no-clauses}
+use Rattle.sheet.specs.Section.{session-ended}
 use borrow.Author.Needs.{needs}
 use Rattle.desk.proofs.memory.without_clauses.Statement.{statement}
 use Rattle.desk.proofs.memory.without_clauses.Tie as tie

@@ -4,7 +4,8 @@ use native.Mathlib.Omega.{arith}
 use lib.Seq.{length-take-le}
 use Rattle.forms.specs.Text.{newline}
 use Rattle.forms.specs.TextLaws.{find-length}
-use Rattle.desk.specs.Opening.{first-fits, first-done}
+use Rattle.sheet.specs.Opening.{first-fits}
+use Rattle.desk.specs.Opening.{first-done}
 use Rattle.desk.specs.Positions.{untouched}
 use borrow.Author.Needs.{needs}
 use Rattle.desk.proofs.opening.answer_all.Statement.{statement}

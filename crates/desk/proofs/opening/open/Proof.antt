@@ -4,7 +4,8 @@ use Prim.Native.Nat.{_≤_, _<_}
 use native.Mathlib.Omega.{arith}
 use Rattle.lit.specs.Numbers.{maxVars}
 use Rattle.sheet.specs.Steps.{line-inside}
-use Rattle.desk.specs.Opening.{first-fits, first-room, first-refused, first-opened}
+use Rattle.sheet.specs.Opening.{first-fits, first-room}
+use Rattle.desk.specs.Opening.{first-refused, first-opened}
 use Rattle.desk.specs.Positions.{untouched}
 use borrow.Author.Needs.{needs}
 use Rattle.desk.proofs.opening.open.Statement.{statement}

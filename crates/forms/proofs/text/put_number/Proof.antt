@@ -1,17 +1,17 @@
--- `forms::text::put_number` meets its contract: the digits left, written before the place, still give the whole number's.
+-- `forms::text::put_number` meets its contract: the decimals 18 left, written before the place, still give the whole number's.
 use Prim.Native.Nat.{_≤_, _+_, _-_, _/_, _%_}
 use mathlib.Core.Path.{_≡_, _∙_, refl, sym}
 use native.Mathlib.Omega.{arith}
 use lib.ListN.{length, length-set}
 use Rattle.forms.specs.Letters.{digitZero}
-use Rattle.forms.specs.Text.{digits, written}
-use Rattle.forms.specs.TextLaws.{digits-length, digits-last-first, put-one, digits-some}
+use Rattle.forms.specs.Text.{written}
+use Rattle.forms.specs.TextLaws.{decimals, decimals-length, decimals-last-first, put-decimal, digits-some}
 use Rattle.forms.proofs.text.put_number.Statement.{statement}
 use Rattle.forms.proofs.text.put_number.Tie as tie
 
 abbrev Inv-loop : tie.InvT-loop
 Inv-loop out₀ at v end left₀ i₀ out left i =
-    ((left ≤ v) × (i ≤ at + length (digits v))) × ((i ≡ at + length (digits left)) × ((length out ≡ length out₀) × (written at (digits left) out ≡ written at (digits v) out₀)))
+    ((left ≤ v) × (i ≤ at + length (decimals 18 v))) × ((i ≡ at + length (decimals 18 left)) × ((length out ≡ length out₀) × (written at (decimals 18 left) out ≡ written at (decimals 18 v) out₀)))
 
 abbrev μ-loop : tie.MeasureT-loop
 μ-loop out₀ at v end left₀ i₀ out left i = left
@@ -23,7 +23,7 @@ loop-holds : tie.Need-loop-holds Inv-loop μ-loop
 loop-holds c = ((omega arith, omega arith), (omega arith, (omega arith, refl)))
 
 sub-i : tie.Need-sub-i Inv-loop μ-loop
-sub-i c = omega (arith, digits-some 9 (c .before .loop .left))
+sub-i c = omega (arith, digits-some 19 (c .before .loop .left))
 
 cast-out : tie.Need-cast-out Inv-loop μ-loop
 cast-out c = omega arith
@@ -32,7 +32,7 @@ add-out : tie.Need-add-out Inv-loop μ-loop
 add-out c = omega arith
 
 slice-write-out : tie.Need-slice-write-out Inv-loop μ-loop
-slice-write-out c = omega (arith, digits-some 9 (c .before .loop .left))
+slice-write-out c = omega (arith, digits-some 19 (c .before .loop .left))
 
 loop-less : tie.Need-loop-less Inv-loop μ-loop
 loop-less c = omega arith
@@ -41,8 +41,8 @@ loop-again : tie.Need-loop-again Inv-loop μ-loop
 loop-again c =
     let a = c .before .before .before .before .args in
     let at = c .before .loop in
-    let e : at .i - 1 ≡ a .at + length (digits (at .left / 10)) = omega (arith, digits-length (at .left) (omega arith) (omega arith)) in
-    let w = sym (digits-last-first (a .at) (at .left) (at .out) (omega arith) (omega arith)) ∙ at .inv .1 .1 .1 in
+    let e : at .i - 1 ≡ a .at + length (decimals 18 (at .left / 10)) = omega (arith, decimals-length 18 (at .left) (omega arith) (omega arith)) in
+    let w = sym (decimals-last-first 18 (a .at) (at .left) (at .out) (omega arith) (omega arith)) ∙ at .inv .1 .1 .1 in
     ((omega arith, omega arith), (e, (length-set (at .out) (at .i - 1) (digitZero + at .left % 10) ∙ at .inv .1 .1 .0, rw e w)))
 
 cast-out-2 : tie.Need-cast-out-2 Inv-loop μ-loop
@@ -52,7 +52,7 @@ add-out-2 : tie.Need-add-out-2 Inv-loop μ-loop
 add-out-2 c = omega arith
 
 slice-write-out-2 : tie.Need-slice-write-out-2 Inv-loop μ-loop
-slice-write-out-2 c = omega (arith, digits-some 9 (c .before .before .before .before .args .v))
+slice-write-out-2 c = omega (arith, digits-some 19 (c .before .before .before .before .args .v))
 
 same-length : tie.Need-same-length Inv-loop μ-loop
 same-length c =
@@ -63,7 +63,7 @@ returns : tie.Need-returns Inv-loop μ-loop
 returns c =
     let a = c .before .before .before .before .args in
     let at = c .before .loop in
-    (put-one (a .at) (at .left) (at .out) (omega arith) ∙ at .inv .1 .1 .1, omega arith)
+    record { buffer = put-decimal 18 (a .at) (at .left) (at .out) (omega arith) ∙ at .inv .1 .1 .1; place = omega arith }
 
 pub put-number-spec : {M : Type 1} → statement M
 put-number-spec =

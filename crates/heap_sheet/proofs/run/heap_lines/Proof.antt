@@ -3,7 +3,7 @@ use mathlib.Core.Path.{_≡_, refl, sym, _∙_}
 use native.Mathlib.Omega.{arith}
 use lib.ListN.{length}
 use Rattle.heap_session.specs.Memory.{sessionOf}
-use Rattle.sheet.specs.SessionLines.{along-none, along-more, along-over}
+use Rattle.sheet.specs.SessionLines.{along-none, along-more}
 use Rattle.heap_sheet.specs.Lines.{HeapAlong}
 use Rattle.heap_sheet.proofs.run.heap_lines.Statement.{statement}
 use Rattle.heap_sheet.proofs.run.heap_lines.Tie as tie
@@ -26,7 +26,7 @@ loop-again : tie.Need-loop-again Inv-loop μ-loop
 loop-again c = (along-more (c .before .before .before .before .before .before .before .before .before .before .before .before .before .before .before .before .before .before .before .before .before .before .before .before .before .before .before .before .before .before .before .before .loop .inv .0) (c .before .before .before .before .before .before .before .before .before .before .before .before .before .before .before .before .before .before .before .before .next-line .ensures .1), omega (arith, c .before .before .before .before .before .before .before .before .before .before .before .before .before .before .before .before .before .before .before .before .before .before .before .before .before .before .before .before .before .before .before .before .loop .inv .1, c .before .before .before .before .before .before .before .before .before .before .before .before .before .before .before .before .before .before .before .before .next-line .ensures .0))
 
 returns : tie.Need-returns Inv-loop μ-loop
-returns c = along-over (c .before .loop .inv .0) (omega (arith, c .loop-test .left, c .before .loop .inv .1))
+returns c = (omega (arith, c .loop-test .left, c .before .loop .inv .1), c .before .loop .inv .0)
 
 pub heap-lines-spec : {M : Type 1} → statement M
 heap-lines-spec =

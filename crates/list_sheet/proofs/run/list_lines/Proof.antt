@@ -5,7 +5,7 @@ use mathlib.Core.List.{List, []}
 use native.Mathlib.Omega.{arith}
 use lib.ListN.{length}
 use Rattle.list_session.specs.Memory.{sessionOf}
-use Rattle.sheet.specs.SessionLines.{along-none, along-more, along-over}
+use Rattle.sheet.specs.SessionLines.{along-none, along-more}
 use Rattle.list_sheet.specs.Lines.{ListAlong}
 use Rattle.list_sheet.proofs.run.list_lines.Statement.{statement}
 use Rattle.list_sheet.proofs.run.list_lines.Tie as tie
@@ -51,7 +51,7 @@ loop-again c =
     )
 
 returns : tie.Need-returns Inv-loop μ-loop
-returns c = λ lits. along-over (c .before .loop .inv .0 lits) (omega (arith, c .loop-test .left, c .before .loop .inv .9))
+returns c = (omega (arith, c .loop-test .left, c .before .loop .inv .9), c .before .loop .inv .0)
 
 pub list-lines-spec : {M : Type 1} → statement M
 list-lines-spec =

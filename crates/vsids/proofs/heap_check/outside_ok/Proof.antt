@@ -1,6 +1,6 @@
 -- `outside_ok` meets its contract. The loop's invariant: of the variables below v those without a position are counted, and nothing else is counted exactly
 -- where each of them is settled.
-use Prim.Native.Nat.{_+_, _≤_, _-_}
+use Prim.Native.Nat.{_≤_, _-_}
 use mathlib.Core.Path.{_≡_, refl, sym, _∙_}
 use mathlib.Core.Logic.{⊎-elim}
 use native.Mathlib.Omega.{arith}

@@ -1,0 +1,2 @@
+-- The program carry: laws that its proofs cite.
+pub mod Counting

@@ -1,0 +1,2 @@
+-- Saved sessions over a slice of nodes: why the first nodes decide.
+pub mod First

@@ -1,0 +1,3 @@
+-- Sheets with saved sessions.
+pub mod Sheets
+pub mod Claims

@@ -1,0 +1,23 @@
+-- What a saved text says of a session's memory.
+pub mod Written
+pub mod Said
+pub mod Entry
+pub mod Judged
+pub mod Eachs
+pub mod Stores
+pub mod Levels
+pub mod Rows
+pub mod OfClauses
+pub mod OfTrail
+pub mod OfHeap
+pub mod OfList
+pub mod Sound
+pub mod Claims
+pub mod Wrote
+pub mod InARow
+pub mod Length
+pub mod Loops
+pub mod Judging
+pub mod Answering
+pub mod Asked
+pub mod Pieces
