@@ -1,12 +1,13 @@
-//! Times the proved chooser against the reference on the same sheets, on the same calls in lists and in the same solver, in one process, turn
-//! by turn, and prints the medians of the processor's time, which other work on the machine disturbs least.
+//! Times the proved chooser against the reference on the same sheets, on the same calls in lists, on the same sessions written and read and in
+//! the same solver, in one process, turn by turn, and prints the medians of the processor's time, which other work on the machine disturbs least.
 //! The reference reads heap, list and values without bounds checks, as JigSAT does.
 //!
-//! Usage: bench, or bench with `sheets`, `lists` or `solver` for one of the three alone.
+//! Usage: bench, or bench with `sheets`, `lists`, `saved` or `solver` for one of the four alone.
 
 mod clock;
 mod lists;
 mod native;
+mod saved;
 mod solver;
 mod workloads;
 
@@ -83,6 +84,10 @@ fn main() {
     }
     if asked("lists") {
         native::table();
+        println!();
+    }
+    if asked("saved") {
+        saved::table();
         println!();
     }
     if asked("solver") {

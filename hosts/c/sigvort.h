@@ -3,7 +3,8 @@
 
    Two ways in. sigvort_run takes a call sheet as text and answers it as text. The entries sigvort_heap_* and sigvort_list_* take lists of calls as
    numbers, on memory that the caller lends: a session. Most callers need only the small functions below the entries, which take a struct for that
-   memory. docs/NATIVE.md is the guide, docs/SHEET.md has an example of each call.
+   memory. Either way a session can be saved as text and carried on later. docs/NATIVE.md is the guide, docs/SHEET.md has an example of each call,
+   docs/SAVED.md has the text of a saved session.
 
    Of every function here: nothing is kept between calls and nothing is allocated, so calls on different memory may run at the same time. A pointer
    is aligned, good for its whole length, and not null, even for a length of 0; only the functions that take a struct allow null for a slice without
@@ -42,6 +43,39 @@ extern "C" {
    A call takes some 160 KB of stack. */
 uint32_t sigvort_run(const uint8_t *sheet, size_t sheet_len, uint8_t *answers, size_t answers_len);
 
+/* Runs a call sheet as sigvort_run does, and saves its session as it is at the end.
+
+   sheet       the sheet's bytes; only read
+   answers     the answer buffer, as of sigvort_run
+   text        the buffer for the session's text, which goes to its front; the bytes behind it stay as they were. It has SIGVORT_SAVED_ROOM bytes for the
+               session, or more; SIGVORT_MAX_SAVED are enough for any
+   written     the text's length. Where there is no session there is no text, and it is 0: the sheet has no line, or its first one is refused
+   returns     the number of bytes of the answers, or 4294967295 less the first refusal of these that fits; then nothing is changed, written neither: 1;
+               2 for the answer buffer; 2 for the text's, where it is shorter than the session's room
+
+   A call takes some 190 KB of stack. */
+uint32_t sigvort_run_new(
+    const uint8_t *sheet, size_t sheet_len, uint8_t *answers, size_t answers_len, uint8_t *text, size_t text_len, uint32_t *written);
+
+/* Goes on with the session of a text: does the calls of a sheet that has nothing but calls, and saves the session as it is at the end. The sheet's lines are
+   numbered from 1; lines n and c are refused with 3.
+
+   old         the text of a saved session; only read
+   sheet, answers, text, written  as of sigvort_run_new; there is always a text
+   returns     the number of bytes of the answers, or 4294967295 less the first refusal of these that fits; then nothing is changed, written neither: 1;
+               2 for the answer buffer; 15, 4, 6, 7 for the old text; 2 for the new text's buffer, where it is shorter than the session's room
+
+   A call takes some 220 KB of stack. */
+uint32_t sigvort_run_on(
+    const uint8_t *old, size_t old_len, const uint8_t *sheet, size_t sheet_len,
+    uint8_t *answers, size_t answers_len, uint8_t *text, size_t text_len, uint32_t *written);
+
+/* The refusal in what one of the three returned: its number, see enum sigvort_refusal and 1 above, or 0 where the sheet was run. */
+static inline uint32_t sigvort_refused(uint32_t returned)
+{
+    return returned > SIGVORT_MAX_SHEET * SIGVORT_ANSWER_ROOM ? UINT32_MAX - returned : 0;
+}
+
 /* ---- Sessions: numbers ---- */
 
 /* The limits of a session. */
@@ -49,6 +83,10 @@ uint32_t sigvort_run(const uint8_t *sheet, size_t sheet_len, uint8_t *answers, s
 #define SIGVORT_MAX_CLAUSES 2048u   /* clauses */
 #define SIGVORT_MAX_LITERALS 8192u  /* literals of all clauses */
 #define SIGVORT_MAX_GROUP 2048u     /* variables of a group */
+
+/* The most bytes that the text of a session of n variables has, with so many clauses and so many literals in all of them; and any session's. */
+#define SIGVORT_SAVED_ROOM(n, clauses, literals) ((size_t)80 + (size_t)41 * (n) + (size_t)2 * (clauses) + (size_t)5 * (literals))
+#define SIGVORT_MAX_SAVED SIGVORT_SAVED_ROOM(SIGVORT_MAX_VARIABLES, SIGVORT_MAX_CLAUSES, SIGVORT_MAX_LITERALS)
 
 /* No reason, no reply, no level, no variable, a place that is not in use. */
 #define SIGVORT_NONE 4294967295u
@@ -75,20 +113,23 @@ enum sigvort_letter {
     SIGVORT_DECAY = 121        /* y: no argument */
 };
 
-/* A status that is not 0. Checked are first 4 to 7, which refuse a whole list, then of each call 3 and 8 to 14; the first that fits is given. */
+/* A status that is not 0. Checked are first 4 to 7, which refuse a whole list, then of each call 3 and 8 to 14; of a text that is read first 15, then 4 to 7;
+   in saving 4 to 7, then 2. The first that fits is given. */
 enum sigvort_refusal {
+    SIGVORT_NO_ROOM = 2,            /* in saving, the text is longer than the buffer; of a sheet, one of its buffers is too short */
     SIGVORT_BAD_FORM = 3,           /* the three words have not the form of a call, or the group does not lie in vars or is too long */
     SIGVORT_TOO_MANY_VARIABLES = 4, /* n is above SIGVORT_MAX_VARIABLES */
-    SIGVORT_BAD_LENGTH = 5,         /* a length is not n, or not the stated count, or calls and answers do not fit each other */
+    SIGVORT_BAD_LENGTH = 5,         /* a length is not n, or not the stated count or the text's, or calls and answers do not fit each other */
     SIGVORT_BAD_CLAUSES = 6,        /* the clause list is not good */
-    SIGVORT_BAD_STATE = 7,          /* the memory holds no good session */
+    SIGVORT_BAD_STATE = 7,          /* the memory, or the text, holds no good session */
     SIGVORT_NO_VARIABLE = 8,        /* a variable, or a literal's variable, is n or more */
     SIGVORT_BAD_POLARITY = 9,       /* the polarity is neither 0 nor 1 */
     SIGVORT_NO_REASON = 10,         /* the reason is neither SIGVORT_NONE nor a clause number */
     SIGVORT_ASSIGNED = 11,          /* the variable is assigned; for a unit, at level 0 */
     SIGVORT_BAD_DECAY = 12,         /* the decay is NaN, below 0.5 or above 1 */
     SIGVORT_LARGE_STEP = 13,        /* the step would be above 1e200; heap mode only */
-    SIGVORT_STUCK = 14              /* nothing from search on is unassigned, yet some variable is; list mode only */
+    SIGVORT_STUCK = 14,             /* nothing from search on is unassigned, yet some variable is; list mode only */
+    SIGVORT_BAD_SAVED = 15          /* a line of a text is missing, out of its place or not of its form, or the text is of the other mode */
 };
 
 /* The code of a literal: twice the variable, plus 1 when it is positive. A variable above 2147483647 has none and gets the code of that one, which no
@@ -101,13 +142,13 @@ static inline uint32_t sigvort_code(uint32_t variable, int positive)
 
 /* ---- Sessions: the entries ----
 
-   Slices go as pointer and length, the small states as pointers to single numbers. These are the same in all four entries:
+   Slices go as pointer and length, the small states as pointers to single numbers. These are the same in all entries of sessions:
 
    n           the number of variables, N
    literals    the stated length of lits
    clauses     the stated length of ends, the number of clauses
-   lits        the codes of all clauses, one clause behind the other; only read
-   ends        for each clause the place in lits behind its last code; only read
+   lits        the codes of all clauses, one clause behind the other; written in reading a text, else only read
+   ends        for each clause the place in lits behind its last code; likewise
    values      N bytes: 0, 1 or SIGVORT_UNASSIGNED
    levels      N words: the level of each assigned variable
    reasons     N words: a clause number, or SIGVORT_NONE
@@ -143,7 +184,8 @@ static inline uint32_t sigvort_code(uint32_t variable, int positive)
                SIGVORT_NONE for other calls, for a decide that finds nothing open, and for refusals. Call i has the words 3i to 3i + 2 of calls, its
                answer the words 2i and 2i + 1
 
-   Each entry returns 0, or the first refusal of 4 to 7 that fits. Then nothing at all is changed: neither memory nor small states nor answers. */
+   Each entry returns 0, or the first refusal that fits. Then nothing at all is changed: neither memory nor small states nor clause list nor answers nor text
+   nor written nor counts. */
 
 /* Opens a session in heap mode: all variables unassigned, members and on, activities 0, step 1, decay 0.95.
 
@@ -210,6 +252,75 @@ uint32_t sigvort_list_calls(
     uint32_t *len, uint32_t *level, uint32_t *curr_i, uint32_t *start, uint32_t *search, uint64_t *timestamp,
     const uint32_t *vars, size_t vars_len, const uint32_t *calls, size_t calls_len, uint32_t *answers, size_t answers_len);
 
+/* ---- Saved sessions: the entries ----
+
+   docs/SAVED.md has the text of a session. A session that is read gives the answers that the written one would have given. In saving the memory is only read,
+   and the small states go by value; in reading memory, small states and clause list are written, from the text alone. */
+
+/* Tells how much memory a text's session takes. This looks at the text's lines and their forms, not at limits nor at the state.
+
+   text        a text; only read
+   list        0 for a session in heap mode, 1 in list mode
+   n           the number of variables
+   literals, clauses  the lengths of lits and ends
+   returns     0, or 15; then nothing is written
+
+   A call takes less than 1 KB of stack. */
+uint32_t sigvort_saved_counts(const uint8_t *text, size_t text_len, uint32_t *list, uint32_t *n, uint64_t *literals, uint64_t *clauses);
+
+/* Saves a session in heap mode. Clauses and memory are checked as for a list of calls.
+
+   reads       everything lent
+   writes      text, the buffer: the text goes to its front, the bytes behind it stay as they were; and written, the text's length
+   returns     0, or 4, 5, 6, 7, 2; 2 where the text is longer than the buffer, never where that has SIGVORT_SAVED_ROOM bytes
+
+   A call takes some 32 KB of stack. */
+uint32_t sigvort_heap_save(
+    uint32_t n, uint32_t literals, uint32_t clauses,
+    const uint32_t *lits, size_t lits_len, const uint32_t *ends, size_t ends_len,
+    const uint8_t *values, size_t values_len, const uint32_t *levels, size_t levels_len, const uint32_t *reasons, size_t reasons_len,
+    const uint32_t *trail, size_t trail_len, const uint32_t *opened, size_t opened_len,
+    const double *activity, size_t activity_len, const uint32_t *heap, size_t heap_len, const uint32_t *indices, size_t indices_len,
+    const uint8_t *decision, size_t decision_len,
+    uint32_t len, uint32_t level, uint32_t curr_i, uint32_t members, double inc, double decay,
+    uint8_t *text, size_t text_len, uint32_t *written);
+
+/* Reads a session in heap mode. N is the length of each of the nine arrays.
+
+   reads       text, a saved session; not what the memory holds, which may be anything
+   writes      all places of lits, ends and the nine arrays, and the six small states. The level of a variable that is not assigned is SIGVORT_NONE
+   returns     0, or 15, 4, 5, 6, 7; 15 also for a text in list mode, 5 where a length is not the text's count
+
+   A call takes some 160 KB of stack. */
+uint32_t sigvort_heap_read(
+    const uint8_t *text, size_t text_len,
+    uint32_t *lits, size_t lits_len, uint32_t *ends, size_t ends_len,
+    uint8_t *values, size_t values_len, uint32_t *levels, size_t levels_len, uint32_t *reasons, size_t reasons_len,
+    uint32_t *trail, size_t trail_len, uint32_t *opened, size_t opened_len,
+    double *activity, size_t activity_len, uint32_t *heap, size_t heap_len, uint32_t *indices, size_t indices_len,
+    uint8_t *decision, size_t decision_len,
+    uint32_t *len, uint32_t *level, uint32_t *curr_i, uint32_t *members, double *inc, double *decay);
+
+/* Saves a session in list mode, as sigvort_heap_save does in heap mode. A call takes some 32 KB of stack. */
+uint32_t sigvort_list_save(
+    uint32_t n, uint32_t literals, uint32_t clauses,
+    const uint32_t *lits, size_t lits_len, const uint32_t *ends, size_t ends_len,
+    const uint8_t *values, size_t values_len, const uint32_t *levels, size_t levels_len, const uint32_t *reasons, size_t reasons_len,
+    const uint32_t *trail, size_t trail_len, const uint32_t *opened, size_t opened_len,
+    const uint32_t *next, size_t next_len, const uint32_t *prev, size_t prev_len, const uint64_t *ts, size_t ts_len,
+    uint32_t len, uint32_t level, uint32_t curr_i, uint32_t start, uint32_t search, uint64_t timestamp,
+    uint8_t *text, size_t text_len, uint32_t *written);
+
+/* Reads a session in list mode, as sigvort_heap_read does in heap mode: a text in heap mode gets 15, and N is the length of each of the eight arrays.
+   A call takes some 160 KB of stack. */
+uint32_t sigvort_list_read(
+    const uint8_t *text, size_t text_len,
+    uint32_t *lits, size_t lits_len, uint32_t *ends, size_t ends_len,
+    uint8_t *values, size_t values_len, uint32_t *levels, size_t levels_len, uint32_t *reasons, size_t reasons_len,
+    uint32_t *trail, size_t trail_len, uint32_t *opened, size_t opened_len,
+    uint32_t *next, size_t next_len, uint32_t *prev, size_t prev_len, uint64_t *ts, size_t ts_len,
+    uint32_t *len, uint32_t *level, uint32_t *curr_i, uint32_t *start, uint32_t *search, uint64_t *timestamp);
+
 /* ---- The memory of a session ----
 
    Arrays of sigvort_places(n) places each and the small states, named as the entries name them. A caller may set the pointers itself, or have one block
@@ -249,6 +360,13 @@ struct sigvort_list {
     uint64_t *ts;
     uint32_t start, search;
     uint64_t timestamp;
+};
+
+/* What a text says of its size. */
+struct sigvort_counts {
+    uint32_t list; /* 0 for a session in heap mode, 1 in list mode */
+    uint32_t n;
+    uint64_t literals, clauses;
 };
 
 /* The places of each array: n, and no more than the limit. With more variables a session is refused, whatever its arrays. */
@@ -390,6 +508,91 @@ static inline uint32_t sigvort_list_do(
         SIGVORT_SLICE(word, s->next, places), SIGVORT_SLICE(word, s->prev, places), SIGVORT_SLICE(stamp, s->ts, places),
         &s->len, &s->level, &s->curr_i, &s->start, &s->search, &s->timestamp,
         SIGVORT_SLICE(word, vars, vars_len), SIGVORT_SLICE(word, calls, calls_len), SIGVORT_SLICE(word, answers, answers_len));
+}
+
+/* Tells what a text says of its size: sigvort_saved_counts. Where it is refused, c stays as it was. */
+static inline uint32_t sigvort_counts_of(struct sigvort_counts *c, const uint8_t *text, size_t text_len)
+{
+    union sigvort_nothing none = {0};
+    return sigvort_saved_counts(SIGVORT_SLICE(byte, text, text_len), &c->list, &c->n, &c->literals, &c->clauses);
+}
+
+/* Saves the session in the memory of s to the front of text, and tells how many bytes that are: sigvort_heap_save. Where it is refused, text and written stay
+   as they were. */
+static inline uint32_t sigvort_heap_to_text(const struct sigvort_heap *s, uint8_t *text, size_t text_len, uint32_t *written)
+{
+    const size_t places = sigvort_places(s->n);
+    union sigvort_nothing none = {0};
+    return sigvort_heap_save(
+        s->n, s->literals, s->clauses, SIGVORT_SLICE(word, s->lits, s->literals), SIGVORT_SLICE(word, s->ends, s->clauses),
+        SIGVORT_SLICE(byte, s->values, places), SIGVORT_SLICE(word, s->levels, places), SIGVORT_SLICE(word, s->reasons, places),
+        SIGVORT_SLICE(word, s->trail, places), SIGVORT_SLICE(word, s->opened, places),
+        SIGVORT_SLICE(number, s->activity, places), SIGVORT_SLICE(word, s->heap, places), SIGVORT_SLICE(word, s->indices, places),
+        SIGVORT_SLICE(byte, s->decision, places),
+        s->len, s->level, s->curr_i, s->members, s->inc, s->decay,
+        SIGVORT_SLICE(byte, text, text_len), written);
+}
+
+/* Reads a session into the memory of s, and its clauses into lits and ends, which s lends from then on: sigvort_heap_read. The text's counts are s->n,
+   literals and clauses. Where it is refused, s stays as it was. */
+static inline uint32_t sigvort_heap_from_text(
+    struct sigvort_heap *s, const uint8_t *text, size_t text_len, uint32_t *lits, size_t literals, uint32_t *ends, size_t clauses)
+{
+    const size_t places = sigvort_places(s->n);
+    union sigvort_nothing none = {0};
+    const uint32_t status = sigvort_heap_read(
+        SIGVORT_SLICE(byte, text, text_len), SIGVORT_SLICE(word, lits, literals), SIGVORT_SLICE(word, ends, clauses),
+        SIGVORT_SLICE(byte, s->values, places), SIGVORT_SLICE(word, s->levels, places), SIGVORT_SLICE(word, s->reasons, places),
+        SIGVORT_SLICE(word, s->trail, places), SIGVORT_SLICE(word, s->opened, places),
+        SIGVORT_SLICE(number, s->activity, places), SIGVORT_SLICE(word, s->heap, places), SIGVORT_SLICE(word, s->indices, places),
+        SIGVORT_SLICE(byte, s->decision, places),
+        &s->len, &s->level, &s->curr_i, &s->members, &s->inc, &s->decay);
+    if (status != 0)
+        return status;
+    s->n = (uint32_t)places;
+    s->lits = lits;
+    s->literals = (uint32_t)literals;
+    s->ends = ends;
+    s->clauses = (uint32_t)clauses;
+    return 0;
+}
+
+/* Saves the session in the memory of s to the front of text, and tells how many bytes that are: sigvort_list_save. Where it is refused, text and written stay
+   as they were. */
+static inline uint32_t sigvort_list_to_text(const struct sigvort_list *s, uint8_t *text, size_t text_len, uint32_t *written)
+{
+    const size_t places = sigvort_places(s->n);
+    union sigvort_nothing none = {0};
+    return sigvort_list_save(
+        s->n, s->literals, s->clauses, SIGVORT_SLICE(word, s->lits, s->literals), SIGVORT_SLICE(word, s->ends, s->clauses),
+        SIGVORT_SLICE(byte, s->values, places), SIGVORT_SLICE(word, s->levels, places), SIGVORT_SLICE(word, s->reasons, places),
+        SIGVORT_SLICE(word, s->trail, places), SIGVORT_SLICE(word, s->opened, places),
+        SIGVORT_SLICE(word, s->next, places), SIGVORT_SLICE(word, s->prev, places), SIGVORT_SLICE(stamp, s->ts, places),
+        s->len, s->level, s->curr_i, s->start, s->search, s->timestamp,
+        SIGVORT_SLICE(byte, text, text_len), written);
+}
+
+/* Reads a session into the memory of s, and its clauses into lits and ends, which s lends from then on: sigvort_list_read. The text's counts are s->n,
+   literals and clauses. Where it is refused, s stays as it was. */
+static inline uint32_t sigvort_list_from_text(
+    struct sigvort_list *s, const uint8_t *text, size_t text_len, uint32_t *lits, size_t literals, uint32_t *ends, size_t clauses)
+{
+    const size_t places = sigvort_places(s->n);
+    union sigvort_nothing none = {0};
+    const uint32_t status = sigvort_list_read(
+        SIGVORT_SLICE(byte, text, text_len), SIGVORT_SLICE(word, lits, literals), SIGVORT_SLICE(word, ends, clauses),
+        SIGVORT_SLICE(byte, s->values, places), SIGVORT_SLICE(word, s->levels, places), SIGVORT_SLICE(word, s->reasons, places),
+        SIGVORT_SLICE(word, s->trail, places), SIGVORT_SLICE(word, s->opened, places),
+        SIGVORT_SLICE(word, s->next, places), SIGVORT_SLICE(word, s->prev, places), SIGVORT_SLICE(stamp, s->ts, places),
+        &s->len, &s->level, &s->curr_i, &s->start, &s->search, &s->timestamp);
+    if (status != 0)
+        return status;
+    s->n = (uint32_t)places;
+    s->lits = lits;
+    s->literals = (uint32_t)literals;
+    s->ends = ends;
+    s->clauses = (uint32_t)clauses;
+    return 0;
 }
 
 #undef SIGVORT_SLICE

@@ -30,7 +30,9 @@
 //! # Ok::<(), sigvort::Refusal>(())
 //! ```
 //!
-//! [`run`] takes whole call sheets as text.
+//! [`Session::save`] writes a session as text, and [`Session::read`] reads it back, on another day or another machine. `docs/SAVED.md` has the text.
+//!
+//! [`run`] takes whole call sheets as text. [`run_new`] saves the session at a sheet's end, and [`run_on`] goes on with it.
 //!
 //! # Linking
 //!
@@ -46,7 +48,9 @@ mod ffi;
 mod lit;
 mod memory;
 mod refusal;
+mod saved;
 mod session;
+mod sheet;
 
 pub use batch::Batch;
 pub use call::{Decision, Reply};
@@ -54,7 +58,9 @@ pub use clauses::Clauses;
 pub use lit::Lit;
 pub use memory::{HeapMemory, HeapState, ListMemory, ListState};
 pub use refusal::Refusal;
+pub use saved::{saved_room, Counts, MAX_SAVED};
 pub use session::{Mode, Session};
+pub use sheet::{run, run_new, run_on, ANSWER_ROOM, MAX_SHEET};
 
 /// No reason, no variable, a place that is not in use: the number that stands for none in lent memory.
 pub const NONE: u32 = u32::MAX;
@@ -70,26 +76,3 @@ pub const MAX_LITERALS: u32 = 8_192;
 
 /// The most variables of a group.
 pub const MAX_GROUP: u32 = 2_048;
-
-/// The bytes of the answer buffer that each newline of a sheet needs.
-pub const ANSWER_ROOM: usize = 24;
-
-/// Runs a sheet and writes its answers to the front of the buffer; the bytes behind them stay as they were. Returns the answers' length.
-///
-/// ```
-/// let sheet = b"n\t1\tvsids\ng\t1\n";
-/// let mut answers = [0; 2 * sigvort::ANSWER_ROOM];
-/// let len = sigvort::run(sheet, &mut answers)?;
-/// assert_eq!(&answers[..len], b"1\t0\t-\n2\t0\t0\n");
-/// # Ok::<(), sigvort::Refusal>(())
-/// ```
-pub fn run(sheet: &[u8], answers: &mut [u8]) -> Result<usize, Refusal> {
-    const TOO_LONG: u32 = u32::MAX - Refusal::SheetTooLong.number();
-    const TOO_SHORT: u32 = u32::MAX - Refusal::BufferTooShort.number();
-    // SAFETY: both slices are valid for their lengths, and a slice that is written overlaps no other.
-    match unsafe { ffi::sigvort_run(sheet.as_ptr(), sheet.len(), answers.as_mut_ptr(), answers.len()) } {
-        TOO_LONG => Err(Refusal::SheetTooLong),
-        TOO_SHORT => Err(Refusal::BufferTooShort),
-        written => Ok(written as usize),
-    }
-}

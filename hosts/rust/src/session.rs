@@ -2,9 +2,11 @@ use std::fmt;
 
 use crate::{
     call::{self, count, Call, UNANSWERED},
-    ffi,
+    ffi::entry,
     memory::{Heap, List, Trail},
-    Batch, Clauses, Decision, HeapMemory, HeapState, ListMemory, ListState, Lit, Refusal, Reply, MAX_VARIABLES,
+    saved_room,
+    sheet::string,
+    Batch, Clauses, Counts, Decision, HeapMemory, HeapState, ListMemory, ListState, Lit, Refusal, Reply, MAX_VARIABLES,
 };
 
 /// How a session chooses.
@@ -23,41 +25,37 @@ enum Chooser<'a> {
     List(List<'a>),
 }
 
-/// Calls an entry with a session's memory spread over its parameters: n and the counts, each slice as pointer and length, the small states, the rest.
+/// A small state as an entry takes it: by reference where it writes the memory, else by value.
+macro_rules! state {
+    (as_mut_ptr $place:expr) => {
+        &mut $place
+    };
+    (as_ptr $place:expr) => {
+        $place
+    };
+}
+
+/// Calls the entry of the session's mode with its memory: what comes before it, the arrays, the small states, what comes behind. `as_mut_ptr` is for an entry
+/// that writes the memory, `as_ptr` for one that reads it.
 macro_rules! enter {
-    ($entry:ident, $session:ident, $chooser:ident, [$($array:ident),*], [$($state:ident),*] $(, $rest:expr)*) => {{
-        let (codes, ends) = ($session.clauses.codes(), $session.clauses.ends());
-        let trail = &mut $session.trail;
-        // SAFETY: pointers and lengths are those of slices, so none is null and all are aligned. Those that are written come from different arrays or
-        // fields behind unique references, so they overlap nothing.
-        Refusal::result(unsafe {
-            ffi::$entry(
-                $session.n,
-                count(codes.len()),
-                count(ends.len()),
-                codes.as_ptr(),
-                codes.len(),
-                ends.as_ptr(),
-                ends.len(),
-                trail.values.as_mut_ptr(),
-                trail.values.len(),
-                trail.levels.as_mut_ptr(),
-                trail.levels.len(),
-                trail.reasons.as_mut_ptr(),
-                trail.reasons.len(),
-                trail.trail.as_mut_ptr(),
-                trail.trail.len(),
-                trail.opened.as_mut_ptr(),
-                trail.opened.len(),
-                $($chooser.$array.as_mut_ptr(), $chooser.$array.len(),)*
-                &mut trail.len,
-                &mut trail.level,
-                &mut trail.curr_i,
-                $(&mut $chooser.$state,)*
-                $($rest,)*
-            )
+    ($heap:ident | $list:ident, $memory:expr, $as:ident, [$($before:tt)*] [$($behind:tt)*]) => {
+        Refusal::result(match $memory {
+            (trail, Chooser::Heap(heap)) => {
+                enter!(@ $heap [$($before)*] $as trail heap [activity heap indices decision] [members inc decay] [$($behind)*])
+            }
+            (trail, Chooser::List(list)) => {
+                enter!(@ $list [$($before)*] $as trail list [next prev ts] [start search timestamp] [$($behind)*])
+            }
         })
-    }};
+    };
+    (@ $entry:ident [$($before:tt)*] $as:ident $trail:ident $chooser:ident [$($array:ident)*] [$($state:ident)*] [$($behind:tt)*]) => {
+        entry!(
+            $entry $($before)*
+            $as [$trail.values, $trail.levels, $trail.reasons, $trail.trail, $trail.opened $(, $chooser.$array)*]
+                (state!($as $trail.len), state!($as $trail.level), state!($as $trail.curr_i) $(, state!($as $chooser.$state))*)
+            $($behind)*
+        )
+    };
 }
 
 /// A session of the chooser, in either mode, in memory of its own or lent by the caller.
@@ -89,6 +87,7 @@ macro_rules! enter {
 /// ```
 ///
 /// A clone is a snapshot: it has memory of its own, also where that of the session is lent. Lent memory counts as lent while a clone of its session lives.
+/// [`save`](Session::save) makes a snapshot as text.
 ///
 /// ```
 /// use sigvort::{Decision, Session};
@@ -217,12 +216,13 @@ impl<'a> Session<'a> {
     }
 
     fn opened_fresh(mut self) -> Result<Self, Refusal> {
-        match &mut self.chooser {
-            Chooser::Heap(heap) => {
-                enter!(sigvort_heap_fresh, self, heap, [activity, heap, indices, decision], [members, inc, decay])
-            }
-            Chooser::List(list) => enter!(sigvort_list_fresh, self, list, [next, prev, ts], [start, search, timestamp]),
-        }?;
+        let (codes, ends) = (self.clauses.codes(), self.clauses.ends());
+        enter!(
+            sigvort_heap_fresh | sigvort_list_fresh,
+            (&mut self.trail, &mut self.chooser),
+            as_mut_ptr,
+            [(self.n, count(codes.len()), count(ends.len())), as_ptr[codes, ends],] []
+        )?;
         Ok(self)
     }
 
@@ -351,34 +351,183 @@ impl Session<'_> {
 
     /// Does a list of calls and writes their answers.
     fn calls(&mut self, vars: &[u32], calls: &[u32], answers: &mut [u32]) -> Result<(), Refusal> {
-        match &mut self.chooser {
-            Chooser::Heap(heap) => enter!(
-                sigvort_heap_calls,
-                self,
-                heap,
-                [activity, heap, indices, decision],
-                [members, inc, decay],
-                vars.as_ptr(),
-                vars.len(),
-                calls.as_ptr(),
-                calls.len(),
-                answers.as_mut_ptr(),
-                answers.len()
-            ),
-            Chooser::List(list) => enter!(
-                sigvort_list_calls,
-                self,
-                list,
-                [next, prev, ts],
-                [start, search, timestamp],
-                vars.as_ptr(),
-                vars.len(),
-                calls.as_ptr(),
-                calls.len(),
-                answers.as_mut_ptr(),
-                answers.len()
-            ),
-        }
+        let (codes, ends) = (self.clauses.codes(), self.clauses.ends());
+        enter!(
+            sigvort_heap_calls | sigvort_list_calls,
+            (&mut self.trail, &mut self.chooser),
+            as_mut_ptr,
+            [(self.n, count(codes.len()), count(ends.len())), as_ptr[codes, ends],] [, as_ptr[vars, calls], as_mut_ptr[answers]]
+        )
+    }
+}
+
+/// Saving, as text (`docs/SAVED.md`). It changes nothing in the session. Refused with [`Refusal::Clauses`] or [`Refusal::State`] for a clause list that was changed
+/// so that it does not fit.
+impl Session<'_> {
+    /// The session's text, which [`read`](Session::read) takes. Two sessions have the same one only where no call tells them apart. Never refused with
+    /// [`Refusal::BufferTooShort`]: the buffer is its own and has [`saved_room`].
+    ///
+    /// ```
+    /// use sigvort::{Decision, Session};
+    ///
+    /// let mut session = Session::list(2)?;
+    /// session.decide(true)?;
+    /// let text = session.save()?;
+    /// assert_eq!(text, "n\t2\tvmtf\nt\t1\nl\t1\nr\t-\nq\t0\nv\t0\t1\ns\t2\t1\nk\t3\nf\t1\n");
+    ///
+    /// let mut later = Session::read(text.as_bytes())?;
+    /// assert_eq!(later.decide(false)?, Decision::Variable(1));
+    /// assert_eq!(later.go_back(0)?, 2);
+    /// # Ok::<(), sigvort::Refusal>(())
+    /// ```
+    pub fn save(&self) -> Result<String, Refusal> {
+        let mut text = vec![0; saved_room(self.n, self.clauses.len(), self.clauses.codes().len())];
+        let len = self.save_to(&mut text)?;
+        Ok(string(&text[..len]))
+    }
+
+    /// Writes the session's text to the front of the buffer; the bytes behind it stay as they were. Returns the text's length. Refused last with
+    /// [`Refusal::BufferTooShort`], never where the buffer has [`saved_room`] bytes.
+    ///
+    /// ```
+    /// use sigvort::{Refusal, Session};
+    ///
+    /// let session = Session::list(0)?;
+    /// let mut buffer = [b'?'; 40];
+    /// let len = session.save_to(&mut buffer)?;
+    /// assert_eq!(&buffer[..len], b"n\t0\tvmtf\nt\nl\nr\nq\t0\nv\ns\nk\t1\nf\t-\n");
+    /// assert_eq!(session.save_to(&mut buffer[..len - 1]), Err(Refusal::BufferTooShort));
+    /// # Ok::<(), Refusal>(())
+    /// ```
+    pub fn save_to(&self, text: &mut [u8]) -> Result<usize, Refusal> {
+        let (codes, ends, mut written) = (self.clauses.codes(), self.clauses.ends(), 0);
+        enter!(
+            sigvort_heap_save | sigvort_list_save,
+            (&self.trail, &self.chooser),
+            as_ptr,
+            [(self.n, count(codes.len()), count(ends.len())), as_ptr[codes, ends],] [, as_mut_ptr[text] (&mut written)]
+        )?;
+        Ok(written as usize)
+    }
+}
+
+/// Reading a session back from its text (`docs/SAVED.md`), into memory of its own.
+impl Session<'static> {
+    /// Reads a session, with its clauses, from its text, in whichever mode that is. It gives the answers that the saved one would have given. Refused with
+    /// [`Refusal::Saved`], [`Refusal::TooManyVariables`], [`Refusal::Clauses`] or [`Refusal::State`].
+    ///
+    /// ```
+    /// use sigvort::{Lit, Mode, Refusal, Session};
+    ///
+    /// let mut session = Session::heap(2)?;
+    /// let learnt = session.clauses_mut().push(&[Lit::new(1, true)]);
+    /// session.enqueue(Lit::new(1, true), Some(learnt))?;
+    /// let mut text = session.save()?;
+    ///
+    /// let read = Session::read(text.as_bytes())?;
+    /// assert_eq!((read.mode(), read.len()), (Mode::Heap, 2));
+    /// assert_eq!(read.clauses(), session.clauses());
+    /// assert_eq!(read.reason_of(1), Some(learnt));
+    /// assert_eq!(read.save()?, text);
+    ///
+    /// text.push('\n');
+    /// assert_eq!(Session::read(text.as_bytes()).unwrap_err(), Refusal::Saved);
+    /// # Ok::<(), Refusal>(())
+    /// ```
+    pub fn read(text: &[u8]) -> Result<Self, Refusal> {
+        let Counts { mode, variables: n, clauses, literals } = Counts::of(text)?;
+        let chooser = match mode {
+            Mode::Heap => Chooser::Heap(Heap::own(places(n))),
+            Mode::List => Chooser::List(List::own(places(n))),
+        };
+        let (mut codes, mut ends) = (vec![0; literals], vec![0; clauses]);
+        let session = Session { n, clauses: Clauses::new(), trail: Trail::own(places(n)), chooser }.filled(text, &mut codes, &mut ends)?;
+        Ok(Session { clauses: Clauses::from_parts(codes, ends), ..session })
+    }
+}
+
+/// Reading a session back into lent memory.
+impl<'a> Session<'a> {
+    /// Reads a session in heap mode from its text into lent memory, and its clauses into `codes` and `ends`. What these hold does not matter; their lengths are
+    /// the [`Counts`] of the text. Refused with [`Refusal::Saved`], [`Refusal::TooManyVariables`], [`Refusal::Length`], [`Refusal::Clauses`] or
+    /// [`Refusal::State`].
+    ///
+    /// ```
+    /// use sigvort::{Decision, HeapMemory, HeapState, Session};
+    ///
+    /// let mut session = Session::heap(2)?;
+    /// session.decide(true)?;
+    /// let text = session.save()?;
+    ///
+    /// let (mut values, mut decision, mut activity) = ([0; 2], [0; 2], [0.0; 2]);
+    /// let [mut levels, mut reasons, mut trail, mut opened, mut heap, mut indices] = [[0; 2]; 6];
+    /// let memory = HeapMemory {
+    ///     values: &mut values,
+    ///     levels: &mut levels,
+    ///     reasons: &mut reasons,
+    ///     trail: &mut trail,
+    ///     opened: &mut opened,
+    ///     activity: &mut activity,
+    ///     heap: &mut heap,
+    ///     indices: &mut indices,
+    ///     decision: &mut decision,
+    ///     state: HeapState::default(),
+    /// };
+    /// let mut session = Session::read_heap_in(text.as_bytes(), &mut [], &mut [], memory)?;
+    /// assert_eq!(session.decide(false)?, Decision::Variable(1));
+    /// assert_eq!(values, [1, 0]);
+    /// # Ok::<(), sigvort::Refusal>(())
+    /// ```
+    pub fn read_heap_in(text: &[u8], codes: &'a mut [u32], ends: &'a mut [u32], memory: HeapMemory<'a>) -> Result<Self, Refusal> {
+        let n = count(memory.values.len());
+        let session = Session::in_heap(n, Clauses::new(), memory).filled(text, codes, ends)?;
+        Ok(Session { clauses: Clauses::from_parts(&*codes, &*ends), ..session })
+    }
+
+    /// Reads a session in list mode from its text into lent memory, as [`read_heap_in`](Session::read_heap_in) does in heap mode.
+    ///
+    /// ```
+    /// use sigvort::{Lit, ListMemory, ListState, Session};
+    ///
+    /// let mut session = Session::list(2)?;
+    /// session.clauses_mut().push(&[Lit::new(1, true)]);
+    /// session.group(&[1])?;
+    /// let text = session.save()?;
+    ///
+    /// let (mut values, mut ts, mut codes, mut ends) = ([0; 2], [0; 2], [0; 1], [0; 1]);
+    /// let [mut levels, mut reasons, mut trail, mut opened, mut next, mut prev] = [[0; 2]; 6];
+    /// let memory = ListMemory {
+    ///     values: &mut values,
+    ///     levels: &mut levels,
+    ///     reasons: &mut reasons,
+    ///     trail: &mut trail,
+    ///     opened: &mut opened,
+    ///     next: &mut next,
+    ///     prev: &mut prev,
+    ///     ts: &mut ts,
+    ///     state: ListState::default(),
+    /// };
+    /// let session = Session::read_list_in(text.as_bytes(), &mut codes, &mut ends, memory)?;
+    /// assert_eq!(session.list_state().unwrap().start, 1);
+    /// assert_eq!(session.clauses().codes(), [3]);
+    /// assert_eq!((ts, codes, ends), ([2, 3], [3], [1]));
+    /// # Ok::<(), sigvort::Refusal>(())
+    /// ```
+    pub fn read_list_in(text: &[u8], codes: &'a mut [u32], ends: &'a mut [u32], memory: ListMemory<'a>) -> Result<Self, Refusal> {
+        let n = count(memory.values.len());
+        let session = Session::in_list(n, Clauses::new(), memory).filled(text, codes, ends)?;
+        Ok(Session { clauses: Clauses::from_parts(&*codes, &*ends), ..session })
+    }
+
+    /// The session with the memory that a text says; the clauses of the text are written beside it.
+    fn filled(mut self, text: &[u8], codes: &mut [u32], ends: &mut [u32]) -> Result<Self, Refusal> {
+        enter!(
+            sigvort_heap_read | sigvort_list_read,
+            (&mut self.trail, &mut self.chooser),
+            as_mut_ptr,
+            [(), as_ptr[text], as_mut_ptr[codes, ends],] []
+        )?;
+        Ok(self)
     }
 }
 

@@ -310,3 +310,85 @@ fn no_variables() {
     let state = session.list_state().unwrap();
     assert!(Session::list_from(0, Clauses::new(), arrays.lend(state)).is_ok());
 }
+
+/// The text of a session with two clauses, and the arrays that it says.
+fn saved(mut session: Session) -> String {
+    session.clauses_mut().push(&[pos(0), pos(1)]);
+    session.clauses_mut().push(&[!pos(2)]);
+    session.decide(true).unwrap();
+    session.enqueue(!pos(2), Some(1)).unwrap();
+    session.save().unwrap()
+}
+
+#[test]
+fn a_heap_session_is_read_into_the_arrays() {
+    let text = saved(Session::heap(3).unwrap());
+    let (mut arrays, mut codes, mut ends) = (HeapArrays::new(3), [9; 3], [9; 2]);
+    let session = Session::read_heap_in(text.as_bytes(), &mut codes, &mut ends, arrays.lend(HeapState::default())).unwrap();
+    assert_eq!((session.len(), session.clauses().ends()), (3, &[2, 3][..]));
+    assert_eq!(session.save(), Ok(text));
+    assert_eq!(session.heap_state(), Some(HeapState { len: 2, level: 1, curr_i: 0, members: 2, inc: 1.0, decay: 0.95 }));
+    let expected = HeapArrays {
+        values: vec![1, 2, 0],
+        levels: vec![1, NONE, 1],
+        reasons: vec![NONE, NONE, 1],
+        trail: vec![1, 4, NONE],
+        opened: vec![0, NONE, NONE],
+        activity: vec![0.0; 3],
+        heap: vec![2, 1, NONE],
+        indices: vec![NONE, 1, 0],
+        decision: vec![1; 3],
+    };
+    assert_eq!((arrays, codes, ends), (expected, [1, 3, 4], [2, 3]));
+}
+
+#[test]
+fn a_list_session_is_read_into_the_arrays() {
+    let text = saved(Session::list(3).unwrap());
+    let (mut arrays, mut codes, mut ends) = (ListArrays::new(3), [9; 3], [9; 2]);
+    let mut session = Session::read_list_in(text.as_bytes(), &mut codes, &mut ends, arrays.lend(ListState::default())).unwrap();
+    assert_eq!(session.save(), Ok(text));
+    assert_eq!(session.list_state(), Some(ListState { len: 2, level: 1, curr_i: 0, start: 0, search: 1, timestamp: 4 }));
+    assert_eq!(session.decide(false), Ok(Decision::Variable(1)));
+    assert_eq!((arrays.values, arrays.next, arrays.ts), (vec![1, 0, 0], vec![1, 2, NONE], vec![3, 2, 1]));
+}
+
+#[test]
+fn a_text_that_is_refused_leaves_the_memory_as_it_was() {
+    let text = saved(Session::heap(3).unwrap());
+    let state = text.replace("q\t0", "q\t3");
+    let clauses = text.replace("c\t1\t3", "c\t1\t6");
+    let other_mode = saved(Session::list(3).unwrap());
+    let cases: [(&str, [usize; 3], Refusal); 8] = [
+        (&text[1..], [3, 3, 2], Refusal::Saved),
+        (&other_mode, [3, 3, 2], Refusal::Saved),
+        (&other_mode, [9, 9, 9], Refusal::Saved),
+        (&text, [4, 3, 2], Refusal::Length),
+        (&text, [3, 2, 2], Refusal::Length),
+        (&clauses, [3, 3, 1], Refusal::Length),
+        (&clauses, [3, 3, 2], Refusal::Clauses),
+        (&state, [3, 3, 2], Refusal::State),
+    ];
+    for (text, [places, literals, count], refusal) in cases {
+        let (mut arrays, mut codes, mut ends) = (HeapArrays::new(places), vec![9; literals], vec![9; count]);
+        let session = Session::read_heap_in(text.as_bytes(), &mut codes, &mut ends, arrays.lend(HeapState::default()));
+        assert_eq!(session.unwrap_err(), refusal);
+        assert_eq!((arrays, codes, ends), (HeapArrays::new(places), vec![9; literals], vec![9; count]));
+    }
+    let mut arrays = ListArrays::new(2);
+    let session = Session::read_list_in(other_mode.as_bytes(), &mut [], &mut [], arrays.lend(ListState::default()));
+    assert_eq!(session.unwrap_err(), Refusal::Length);
+    assert_eq!(arrays, ListArrays::new(2));
+}
+
+#[test]
+fn no_variables_are_read_into_no_arrays() {
+    let text = Session::heap(0).unwrap().save().unwrap();
+    let mut arrays = HeapArrays::new(0);
+    let session = Session::read_heap_in(text.as_bytes(), &mut [], &mut [], arrays.lend(HeapState::default())).unwrap();
+    assert_eq!(session.save(), Ok(text));
+    let text = Session::list(0).unwrap().save().unwrap();
+    let mut arrays = ListArrays::new(0);
+    let session = Session::read_list_in(text.as_bytes(), &mut [], &mut [], arrays.lend(ListState::default())).unwrap();
+    assert_eq!(session.save(), Ok(text));
+}

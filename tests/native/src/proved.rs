@@ -16,21 +16,21 @@ pub trait Proved: Parts {
 }
 
 /// Clauses and trail while they are lent.
-struct Common {
-    lits: Guarded<u32>,
-    ends: Guarded<u32>,
-    values: Guarded<u8>,
-    levels: Guarded<u32>,
-    reasons: Guarded<u32>,
-    trail: Guarded<u32>,
-    opened: Guarded<u32>,
-    len: Guarded<u32>,
-    level: Guarded<u32>,
-    curr_i: Guarded<u32>,
+pub struct Common {
+    pub lits: Guarded<u32>,
+    pub ends: Guarded<u32>,
+    pub values: Guarded<u8>,
+    pub levels: Guarded<u32>,
+    pub reasons: Guarded<u32>,
+    pub trail: Guarded<u32>,
+    pub opened: Guarded<u32>,
+    pub len: Guarded<u32>,
+    pub level: Guarded<u32>,
+    pub curr_i: Guarded<u32>,
 }
 
 impl Common {
-    fn lend(clauses: &Clauses, trail: &TrailMemory, guards: Guards) -> Self {
+    pub fn lend(clauses: &Clauses, trail: &TrailMemory, guards: Guards) -> Self {
         Common {
             lits: guards.lend(&clauses.lits),
             ends: guards.lend(&clauses.ends),
@@ -45,7 +45,7 @@ impl Common {
         }
     }
 
-    fn back(self, clauses: &mut Clauses, trail: &mut TrailMemory) -> Result<(), String> {
+    pub fn back(self, clauses: &mut Clauses, trail: &mut TrailMemory) -> Result<(), String> {
         clauses.lits = self.lits.back("lits")?;
         clauses.ends = self.ends.back("ends")?;
         *trail = TrailMemory {

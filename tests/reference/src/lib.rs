@@ -1,5 +1,5 @@
 //! A separate chooser to compare the proved one with: JigSAT's `Heap`, `VSIDS` and `VMTF` over vectors, its trail under them, and on top the
-//! call sheet and the lists of calls on lent memory. It shares nothing with the Rattle crates. Names and steps are JigSAT's; its licence and
+//! call sheet, the lists of calls on lent memory and the saved session. It shares nothing with the Rattle crates. Names and steps are JigSAT's; its licence and
 //! origin are in the file NOTICE of this repository.
 
 mod assignments;
@@ -10,6 +10,7 @@ mod heap;
 mod lit;
 pub mod native;
 mod refusal;
+pub mod saved;
 pub mod session;
 mod sheet;
 mod trail;

@@ -1,5 +1,5 @@
-/// Why a line of a sheet, a list of calls or one of its calls is refused; the number is the answer's status. 5 and 7 speak of lent memory
-/// and cannot come from a sheet.
+/// Why a line of a sheet, a list of calls, one of its calls or a saved session is refused; the number is the answer's status. 5 and 7 speak
+/// of lent memory and of saved sessions, 15 of these alone; none of the three can come from a sheet.
 #[derive(Clone, Copy, Debug, PartialEq, Eq)]
 #[repr(u8)]
 pub enum Refusal {
@@ -17,4 +17,5 @@ pub enum Refusal {
     Decay = 12,
     Step = 13,
     Stuck = 14,
+    Saved = 15,
 }

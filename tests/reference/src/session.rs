@@ -31,6 +31,21 @@ pub struct Session<D> {
     pub(crate) decisions: D,
 }
 
+/// A session of either mode.
+pub enum Live {
+    Heap(Session<VSIDS>),
+    List(Session<VMTF>),
+}
+
+impl Live {
+    pub fn trail(&self) -> &Trail {
+        match self {
+            Live::Heap(session) => session.trail(),
+            Live::List(session) => session.trail(),
+        }
+    }
+}
+
 impl<D: Decisions> Session<D> {
     /// A fresh session: nothing assigned, no level opened.
     pub fn new(formula: Formula) -> Self {
@@ -39,6 +54,10 @@ impl<D: Decisions> Session<D> {
 
     pub fn trail(&self) -> &Trail {
         &self.trail
+    }
+
+    pub fn formula(&self) -> &Formula {
+        &self.formula
     }
 
     /// Adds a clause behind the others; a reason may name it from now on.

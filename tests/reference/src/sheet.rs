@@ -5,10 +5,9 @@ use crate::{
     formula::Formula,
     lit::Lit,
     refusal::Refusal,
-    session::{Call, Reply, Session},
-    vmtf::VMTF,
-    vsids::VSIDS,
+    session::{Call, Live, Reply, Session},
 };
+use std::iter::Peekable;
 
 /// The longest sheet, in bytes.
 pub const MAX_SHEET: usize = 32_768;
@@ -26,38 +25,83 @@ pub enum Mode {
     Vmtf,
 }
 
+impl Mode {
+    /// The word for it on the first line of a sheet or of a saved session.
+    pub fn name(self) -> &'static [u8] {
+        match self {
+            Mode::Vsids => b"vsids",
+            Mode::Vmtf => b"vmtf",
+        }
+    }
+}
+
 /// Runs a sheet and writes its answers to the front of the buffer. Returns the number of bytes written, or 4294967295 less 1 for a sheet
 /// that is too long and less 2 for a buffer that is too short.
 pub fn run(sheet: &[u8], answers: &mut [u8]) -> u32 {
-    if sheet.len() > MAX_SHEET {
-        return u32::MAX - Refusal::SheetTooLong as u32;
+    match run_to_end(sheet, answers, drop) {
+        Ok(len) => len as u32,
+        Err(refusal) => u32::MAX - refusal as u32,
     }
-    let newlines = sheet.iter().filter(|&&byte| byte == NEWLINE).count();
-    if answers.len() < ANSWER_ROOM * newlines {
-        return u32::MAX - Refusal::BufferTooShort as u32;
-    }
-    let mut lines = sheet.split(|&byte| byte == NEWLINE).take(newlines);
-    let mut answers = Answers { buffer: answers, len: 0, line: 0 };
+}
+
+/// The same; hands over the session as it is at the end, unless the first line is refused or missing.
+pub fn run_to_end(sheet: &[u8], answers: &mut [u8], at_end: impl FnOnce(Live)) -> Result<usize, Refusal> {
+    let (mut lines, mut answers) = open(sheet, answers)?;
     if let Some(first) = lines.next() {
         let heading = parse_heading(first);
         answers.write(heading.map(|_| None));
         match heading {
-            Ok((num_vars, Mode::Vsids)) => run_session::<VSIDS>(num_vars, lines, &mut answers),
-            Ok((num_vars, Mode::Vmtf)) => run_session::<VMTF>(num_vars, lines, &mut answers),
+            Ok((num_vars, Mode::Vsids)) => at_end(Live::Heap(run_session(num_vars, lines, &mut answers))),
+            Ok((num_vars, Mode::Vmtf)) => at_end(Live::List(run_session(num_vars, lines, &mut answers))),
             Err(_) => {}
         }
     }
-    answers.len as u32
+    Ok(answers.len)
+}
+
+/// Does the calls of a sheet that has nothing but calls. Gives the number of bytes written, or refusal 1 or 2.
+pub fn run_on(live: &mut Live, sheet: &[u8], answers: &mut [u8]) -> Result<usize, Refusal> {
+    let (lines, mut answers) = open(sheet, answers)?;
+    match live {
+        Live::Heap(session) => run_calls(session, lines, &mut answers),
+        Live::List(session) => run_calls(session, lines, &mut answers),
+    }
+    Ok(answers.len)
+}
+
+/// The lines of a sheet that is not too long, and no answers yet, in a buffer that has room for theirs.
+fn open<'a, 'b>(sheet: &'a [u8], buffer: &'b mut [u8]) -> Result<(Peekable<impl Iterator<Item = &'a [u8]>>, Answers<'b>), Refusal> {
+    if sheet.len() > MAX_SHEET {
+        return Err(Refusal::SheetTooLong);
+    }
+    let newlines = newlines(sheet);
+    if buffer.len() < ANSWER_ROOM * newlines {
+        return Err(Refusal::BufferTooShort);
+    }
+    let lines = sheet.split(|&byte| byte == NEWLINE).take(newlines).peekable();
+    Ok((lines, Answers { buffer, len: 0, line: 0 }))
+}
+
+pub fn newlines(sheet: &[u8]) -> usize {
+    sheet.iter().filter(|&&byte| byte == NEWLINE).count()
 }
 
 /// Reads the clauses, makes the session and does its calls.
-fn run_session<'a, D: Decisions>(num_vars: usize, lines: impl Iterator<Item = &'a [u8]>, answers: &mut Answers) {
-    let mut lines = lines.peekable();
+fn run_session<'a, D: Decisions>(
+    num_vars: usize,
+    mut lines: Peekable<impl Iterator<Item = &'a [u8]>>,
+    answers: &mut Answers,
+) -> Session<D> {
     let mut formula = Formula::new(num_vars);
     while let Some(line) = lines.next_if(|line| line.first() == Some(&b'c')) {
         answers.write(parse_clause(line, &mut formula).map(|()| None));
     }
-    let mut session = Session::<D>::new(formula);
+    let mut session = Session::new(formula);
+    run_calls(&mut session, lines, answers);
+    session
+}
+
+fn run_calls<'a, D: Decisions>(session: &mut Session<D>, lines: impl Iterator<Item = &'a [u8]>, answers: &mut Answers) {
     let mut group = Vec::new();
     for line in lines {
         answers.write(parse_call(line, &mut group).and_then(|call| session.call(call)));

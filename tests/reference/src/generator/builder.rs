@@ -5,41 +5,14 @@ use super::{
 use crate::{
     formula::Formula,
     refusal::Refusal,
-    session::{Reply, Session},
+    session::{Live, Reply, Session},
     sheet::{parse_call, Mode, MAX_SHEET},
-    trail::Trail,
-    vmtf::VMTF,
-    vsids::VSIDS,
 };
 
-/// A session that runs along, so that the next call can be chosen by its state.
-enum Live {
-    Heap(Session<VSIDS>),
-    List(Session<VMTF>),
-}
-
-impl Live {
-    fn new(mode: Mode, formula: Formula) -> Self {
-        match mode {
-            Mode::Vsids => Live::Heap(Session::new(formula)),
-            Mode::Vmtf => Live::List(Session::new(formula)),
-        }
-    }
-
-    fn trail(&self) -> &Trail {
-        match self {
-            Live::Heap(session) => session.trail(),
-            Live::List(session) => session.trail(),
-        }
-    }
-
-    fn line(&mut self, line: &[u8]) -> Result<Reply, Refusal> {
-        let mut group = Vec::new();
-        let call = parse_call(line, &mut group)?;
-        match self {
-            Live::Heap(session) => session.call(call),
-            Live::List(session) => session.call(call),
-        }
+fn fresh(mode: Mode, formula: Formula) -> Live {
+    match mode {
+        Mode::Vsids => Live::Heap(Session::new(formula)),
+        Mode::Vmtf => Live::List(Session::new(formula)),
     }
 }
 
@@ -51,6 +24,7 @@ pub struct Builder<'a> {
     clauses: usize,
     length: usize,
     sheet: Vec<u8>,
+    /// The session runs along, so that the next call can be chosen by its state.
     live: Live,
 }
 
@@ -76,7 +50,7 @@ impl<'a> Builder<'a> {
     pub fn new(mode: Mode, num_vars: usize, length: usize, rng: &'a mut Rng) -> Self {
         let name = if mode == Mode::Vsids { "vsids" } else { "vmtf" };
         let sheet = format!("n\t{num_vars}\t{name}\n").into_bytes();
-        Builder { rng, mode, num_vars, clauses: 0, length, sheet, live: Live::new(mode, Formula::new(0)) }
+        Builder { rng, mode, num_vars, clauses: 0, length, sheet, live: fresh(mode, Formula::new(0)) }
     }
 
     /// Adds random clauses and makes the session.
@@ -92,7 +66,7 @@ impl<'a> Builder<'a> {
             self.clauses += usize::from(crate::sheet::parse_clause(line.as_bytes(), &mut formula).is_ok());
             self.push(&line);
         }
-        self.live = Live::new(self.mode, formula);
+        self.live = fresh(self.mode, formula);
     }
 
     /// Adds calls until the length is reached.
@@ -123,7 +97,12 @@ impl<'a> Builder<'a> {
 
     fn call(&mut self, line: String) -> Result<Reply, Refusal> {
         self.push(&line);
-        self.live.line(line.as_bytes())
+        let mut group = Vec::new();
+        let call = parse_call(line.as_bytes(), &mut group)?;
+        match &mut self.live {
+            Live::Heap(session) => session.call(call),
+            Live::List(session) => session.call(call),
+        }
     }
 
     fn act(&mut self, act: Act, wild: usize) {

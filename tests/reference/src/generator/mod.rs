@@ -10,7 +10,7 @@ mod rng;
 mod tests;
 
 pub use boundary::{named, Named};
-pub use examples::examples;
+pub use examples::{all_examples, examples, saved_examples, Example};
 
 use crate::sheet::{Mode, MAX_VARIABLES};
 use builder::Builder;

@@ -1,5 +1,9 @@
 use super::*;
-use crate::{run, ANSWER_ROOM};
+use crate::{
+    run,
+    saved::{carry_on, run_new},
+    ANSWER_ROOM,
+};
 use std::collections::BTreeSet;
 
 /// The statuses that a sheet's answers hold, 1 and 2 for a refused sheet.
@@ -50,6 +54,13 @@ fn equal_seeds_give_equal_sheets() {
 fn examples_are_read_line_by_line() {
     let document = "text\n```sheet\nn|1|vsids  → 1|0|-\nx\n```\n```\nno\n```\n";
     assert_eq!(examples(document), [(b"n\t1\tvsids\nx\n".to_vec(), b"1\t0\t-\n".to_vec())]);
+    let document = "```saved\nt|1\nl\n```\n```carried\ny → 1|0|-\n```\n```sheet\n```\n";
+    let (carried, empty) = ((b"y\n".to_vec(), b"1\t0\t-\n".to_vec()), (vec![], vec![]));
+    assert_eq!(
+        all_examples(document),
+        [Example::Saved(b"t\t1\nl\n".to_vec()), Example::Carried(carried.0, carried.1), Example::Sheet(empty.0, empty.1)]
+    );
+    assert_eq!((examples(document).len(), saved_examples(document)), (1, vec![b"t\t1\nl\n".to_vec()]));
 }
 
 #[test]
@@ -61,6 +72,28 @@ fn the_documents_examples_answer_as_shown() {
         let mut answers = vec![0; ANSWER_ROOM * sheet.len()];
         let len = run(&sheet, &mut answers) as usize;
         assert_eq!(String::from_utf8_lossy(&answers[..len]), String::from_utf8_lossy(&shown));
+    }
+}
+
+/// A carried sheet goes on with the text that the example before it is or leaves.
+#[test]
+fn the_documents_carried_sheets_answer_as_shown() {
+    let documents = [(include_str!("../../../../docs/SHEET.md"), 3), (include_str!("../../../../docs/SAVED.md"), 1)];
+    for (document, due) in documents {
+        let (mut text, mut carried) = (Vec::new(), 0);
+        for example in all_examples(document) {
+            let (ran, shown) = match example {
+                Example::Sheet(sheet, shown) => (run_new(&sheet).unwrap(), shown),
+                Example::Saved(saved) => ((Vec::new(), saved), Vec::new()),
+                Example::Carried(sheet, shown) => {
+                    carried += 1;
+                    (carry_on(&text, &sheet).unwrap(), shown)
+                }
+            };
+            assert_eq!(String::from_utf8_lossy(&ran.0), String::from_utf8_lossy(&shown));
+            text = ran.1;
+        }
+        assert_eq!(carried, due);
     }
 }
 

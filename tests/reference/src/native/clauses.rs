@@ -19,6 +19,12 @@ impl Clauses {
         Clauses { literals: lits.len() as u32, clauses: ends.len() as u32, lits, ends }
     }
 
+    /// The clauses that a session has.
+    pub fn of(formula: &Formula) -> Self {
+        let lits = formula.lits.iter().map(|lit| lit.code()).collect();
+        Clauses::new(lits, formula.ends.iter().map(|&end| end as u32).collect())
+    }
+
     /// Whether the stated counts are those of the slices.
     pub fn fits(&self) -> bool {
         self.lits.len() == self.literals as usize && self.ends.len() == self.clauses as usize
