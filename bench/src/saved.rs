@@ -1,12 +1,14 @@
-//! Sessions written as text and read back, timed against the reference. The proved entries work on lent memory, which they check before they
-//! write; the reference writes a session that is its own, into a vector that is kept, and reads into vectors that it makes anew.
+//! Sessions written as text and read back, and sheets that begin and go on with them, timed against the reference. In writing both check the
+//! memory that is lent; then the reference writes its own session, which is the same, into a vector that is kept. It reads into vectors that it
+//! makes anew.
 
 use crate::{clock::thread_time, median, SAMPLE, SAMPLES};
 use reference::{
     generator::Rng,
-    native::{Clauses, HeapMemory, ListMemory, Memory},
+    native::{Clauses, HeapMemory, Lent, ListMemory, Memory},
     saved::{self, Saved},
     session::{Call, Lit, Session},
+    ANSWER_ROOM,
 };
 use std::{hint::black_box, time::Duration};
 
@@ -125,13 +127,23 @@ fn rows<M: Proved>(n: usize) {
     assert!(lent.read(n, &mut lent_clauses, &text), "the text is refused");
     assert!(lent == M::of(&read) && lent_clauses == clauses, "what is read differs");
 
+    let lent_well = || {
+        let (clauses, memory) = (black_box(&clauses), black_box(&memory));
+        memory.fits(n) && clauses.fits() && clauses.are_good(n) && memory.broken(Lent { n, clauses: clauses.ends.len() }).is_empty()
+    };
     let mut kept = Vec::new();
     row(
         format!("{} written, N = {n}", M::NAME),
         text.len(),
-        [&mut || saved::save(black_box(&session), black_box(&mut kept)), &mut || {
-            black_box(black_box(&memory).save(n, &clauses, black_box(&mut buffer)));
-        }],
+        [
+            &mut || {
+                assert!(lent_well(), "the memory is good");
+                saved::save(black_box(&session), black_box(&mut kept));
+            },
+            &mut || {
+                black_box(black_box(&memory).save(n, &clauses, black_box(&mut buffer)));
+            },
+        ],
     );
     row(
         format!("{} read, N = {n}", M::NAME),
@@ -140,15 +152,100 @@ fn rows<M: Proved>(n: usize) {
             black_box(black_box(&mut lent).read(n, &mut lent_clauses, black_box(&text)));
         }],
     );
+    carried::<M>(n, &text);
 }
 
-/// Prints the times of a session written and of its text read, by mode and number of variables.
+/// A decision, a way back and three bumps, in lines of a sheet, so many times.
+fn calls(n: usize, times: usize) -> Vec<u8> {
+    let mut rng = Rng::new(11);
+    let turn = |_| format!("g\t1\nk\t0\nb\t{}\nb\t{}\nb\t{}\n", rng.below(n), rng.below(n), rng.below(n));
+    (0..times).map(turn).collect::<String>().into_bytes()
+}
+
+/// A sheet that opens a session with n variables and does calls, its session saved at its end.
+fn new<M: Proved>(n: usize) {
+    let mode = if M::NAME == "heap" { "vsids" } else { "vmtf" };
+    let sheet = [format!("n\t{n}\t{mode}\n").as_bytes(), &calls(n, 4)].concat();
+    let (answers, text) = saved::run_new(&sheet).expect("the sheet is good");
+    let mut buffers = Buffers::new(&sheet, saved::bound(n, 0, 0));
+    assert!(buffers.run_new(&sheet) && buffers.hold(&answers, &text), "answers or texts differ");
+    row(
+        format!("{} sheet and its text, N = {n}", M::NAME),
+        sheet.len() + text.len(),
+        [&mut || drop(black_box(saved::run_new(black_box(&sheet)))), &mut || {
+            black_box(buffers.run_new(black_box(&sheet)));
+        }],
+    );
+}
+
+/// A sheet of calls on a text.
+fn carried<M: Proved>(n: usize, old: &[u8]) {
+    let sheet = calls(n, 4);
+    let (answers, text) = saved::carry_on(old, &sheet).expect("text and sheet are good");
+    let counts = saved::counts(old).expect("the text has its lines");
+    let mut buffers = Buffers::new(&sheet, saved::bound(n, counts.clauses, counts.literals));
+    assert!(buffers.run_on(old, &sheet) && buffers.hold(&answers, &text), "answers or texts differ");
+    row(
+        format!("{} carried on, N = {n}", M::NAME),
+        old.len() + sheet.len() + text.len(),
+        [&mut || drop(black_box(saved::carry_on(black_box(old), black_box(&sheet)))), &mut || {
+            black_box(buffers.run_on(black_box(old), black_box(&sheet)));
+        }],
+    );
+}
+
+/// What a run writes: answers, the text of its session, and how long they are.
+struct Buffers {
+    answers: Vec<u8>,
+    text: Vec<u8>,
+    lengths: [u32; 2],
+}
+
+impl Buffers {
+    fn new(sheet: &[u8], bound: usize) -> Self {
+        let newlines = sheet.iter().filter(|&&byte| byte == b'\n').count();
+        Buffers { answers: vec![0; ANSWER_ROOM * newlines], text: vec![0; bound], lengths: [0; 2] }
+    }
+
+    /// Says whether the run is not refused.
+    fn run_new(&mut self, sheet: &[u8]) -> bool {
+        let Buffers { answers, text, lengths: [told, written] } = self;
+        // SAFETY: each pointer is followed by the length of what it points to, or points to a number; what is written overlaps nothing else.
+        *told = unsafe {
+            ffi::sigvort_run_new(
+                sheet.as_ptr(), sheet.len(), answers.as_mut_ptr(), answers.len(), text.as_mut_ptr(), text.len(), written,
+            )
+        };
+        *told as usize <= answers.len()
+    }
+
+    fn run_on(&mut self, old: &[u8], sheet: &[u8]) -> bool {
+        let Buffers { answers, text, lengths: [told, written] } = self;
+        // SAFETY: as above.
+        *told = unsafe {
+            ffi::sigvort_run_on(
+                old.as_ptr(), old.len(), sheet.as_ptr(), sheet.len(), answers.as_mut_ptr(), answers.len(), text.as_mut_ptr(), text.len(), written,
+            )
+        };
+        *told as usize <= answers.len()
+    }
+
+    /// Whether these were written.
+    fn hold(&self, answers: &[u8], text: &[u8]) -> bool {
+        let [told, written] = self.lengths.map(|length| length as usize);
+        self.answers[..told] == *answers && self.text[..written] == *text
+    }
+}
+
+/// Prints the times of a session written, of its text read and of sheets with saved sessions, by mode and number of variables.
 pub fn table() {
     println!("{:<34} {:>7} {:>14} {:>12} {:>7}", "saved sessions", "bytes", "reference, ns", "proved, ns", "ratio");
     for n in [3, 64, 480, 2048] {
         rows::<HeapMemory>(n);
+        new::<HeapMemory>(n);
     }
     for n in [3, 64, 480, 2048] {
         rows::<ListMemory>(n);
+        new::<ListMemory>(n);
     }
 }

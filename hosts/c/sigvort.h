@@ -53,7 +53,7 @@ uint32_t sigvort_run(const uint8_t *sheet, size_t sheet_len, uint8_t *answers, s
    returns     the number of bytes of the answers, or 4294967295 less the first refusal of these that fits; then nothing is changed, written neither: 1;
                2 for the answer buffer; 2 for the text's, where it is shorter than the session's room
 
-   A call takes some 190 KB of stack. */
+   A call takes some 175 KB of stack. */
 uint32_t sigvort_run_new(
     const uint8_t *sheet, size_t sheet_len, uint8_t *answers, size_t answers_len, uint8_t *text, size_t text_len, uint32_t *written);
 
@@ -65,7 +65,7 @@ uint32_t sigvort_run_new(
    returns     the number of bytes of the answers, or 4294967295 less the first refusal of these that fits; then nothing is changed, written neither: 1;
                2 for the answer buffer; 15, 4, 6, 7 for the old text; 2 for the new text's buffer, where it is shorter than the session's room
 
-   A call takes some 220 KB of stack. */
+   A call takes some 205 KB of stack. */
 uint32_t sigvort_run_on(
     const uint8_t *old, size_t old_len, const uint8_t *sheet, size_t sheet_len,
     uint8_t *answers, size_t answers_len, uint8_t *text, size_t text_len, uint32_t *written);
@@ -274,7 +274,7 @@ uint32_t sigvort_saved_counts(const uint8_t *text, size_t text_len, uint32_t *li
    writes      text, the buffer: the text goes to its front, the bytes behind it stay as they were; and written, the text's length
    returns     0, or 4, 5, 6, 7, 2; 2 where the text is longer than the buffer, never where that has SIGVORT_SAVED_ROOM bytes
 
-   A call takes some 32 KB of stack. */
+   A call takes some 28 KB of stack. */
 uint32_t sigvort_heap_save(
     uint32_t n, uint32_t literals, uint32_t clauses,
     const uint32_t *lits, size_t lits_len, const uint32_t *ends, size_t ends_len,
@@ -301,7 +301,7 @@ uint32_t sigvort_heap_read(
     uint8_t *decision, size_t decision_len,
     uint32_t *len, uint32_t *level, uint32_t *curr_i, uint32_t *members, double *inc, double *decay);
 
-/* Saves a session in list mode, as sigvort_heap_save does in heap mode. A call takes some 32 KB of stack. */
+/* Saves a session in list mode, as sigvort_heap_save does in heap mode. A call takes some 28 KB of stack. */
 uint32_t sigvort_list_save(
     uint32_t n, uint32_t literals, uint32_t clauses,
     const uint32_t *lits, size_t lits_len, const uint32_t *ends, size_t ends_len,

@@ -1,9 +1,11 @@
 // The text of a call sheet: places of bytes, whole numbers, bit patterns, and the digits of answers.
 ghost use mathlib.Core.Path.{_≡_};
 ghost use mathlib.Core.Bool.{cond};
-ghost use Prim.Native.Nat.{_+_, _≤_};
+ghost use mathlib.Core.List.{[], _∷_};
+ghost use Prim.Native.Nat.{_+_, _<_, _≤_};
 ghost use lib.Ieee.{binary64, ofBits};
 ghost use lib.ListN.{length, take, drop};
+ghost use Rattle.forms.specs.Letters.{digitZero};
 ghost use Rattle.forms.specs.Text as spec;
 ghost use Rattle.forms.specs.TextRead.{wholeOf, fieldOf, bitsOf};
 ghost use Rattle.forms.specs.Reading.{block, digitValue, digitRun, run};
@@ -121,23 +123,63 @@ pub fn digits_at(bytes: &[u8], at: usize, top: u64) -> Field
     requires { ⌜ at ≤ length (now bytes) ⌝ }
     ensures { λ r. ⌜ r ≡ fieldOf (at + digitRun (drop at (now (bytes .entry)))) (spec.numberUpTo top (run (drop at (now (bytes .entry))))) ⌝ }
 {
-    let mut value: u64 = 0;
-    let mut i = at;
+    if at == bytes.len() {
+        return Field::Bad;
+    }
+    let first = digit(bytes[at]);
+    if first == 10 {
+        return Field::Bad;
+    }
+    let mut i = at + 1;
+    if first == 0 {
+        if i < bytes.len() && digit(bytes[i]) < 10 {
+            return Field::Bad;
+        }
+        return Field::Is(0, i);
+    }
+    let mut value = first as u64;
     while i < bytes.len() && digit(bytes[i]) < 10 {
         let d = digit(bytes[i]) as u64;
         if value >= MOST_TENTH && value > (MOST - d) / 10 {
             return Field::Bad;
         }
         value = value * 10 + d;
-        if value > top {
+        i += 1;
+    }
+    if value > top {
+        return Field::Bad;
+    }
+    Field::Is(value, i)
+}
+
+// The same of 32 bits: a number that is not too great has room for a digit more.
+pub fn small_digits_at(bytes: &[u8], at: usize, top: u32) -> Field
+    requires { ⌜ at ≤ length (now bytes) ⌝ }
+    ensures { λ r. ⌜ r ≡ fieldOf (at + digitRun (drop at (now (bytes .entry)))) (spec.numberUpTo top (run (drop at (now (bytes .entry))))) ⌝ }
+{
+    if at == bytes.len() {
+        return Field::Bad;
+    }
+    let first = digit(bytes[at]);
+    if first == 10 {
+        return Field::Bad;
+    }
+    let mut i = at + 1;
+    if first == 0 {
+        if i < bytes.len() && digit(bytes[i]) < 10 {
+            return Field::Bad;
+        }
+        return Field::Is(0, i);
+    }
+    let mut value = first as u64;
+    while i < bytes.len() && digit(bytes[i]) < 10 {
+        value = value * 10 + digit(bytes[i]) as u64;
+        if value > top as u64 {
             return Field::Bad;
         }
         i += 1;
     }
-    if i == at {
-        return Field::Bad;
-    }
-    if bytes[at] == b'0' && i - at > 1 {
+    if value > top as u64 {
         return Field::Bad;
     }
     Field::Is(value, i)
@@ -161,13 +203,16 @@ pub fn number_at(bytes: &[u8], at: usize, top: u64) -> Field
 fn hex_digit(b: u8) -> u8
     ensures { λ r. ⌜ r ≡ cond (spec.isHex b) (spec.hexDigit b) 16 ⌝ }
 {
-    if b >= b'0' && b <= b'9' {
-        return b - b'0';
+    let low = std::num::wrapping_sub_u8(b, b'0');
+    let high = std::num::wrapping_sub_u8(b, b'a');
+    let mut d = 16;
+    if high < 6 {
+        d = high + 10;
     }
-    if b >= b'a' && b <= b'f' {
-        return b - (b'a' - 10);
+    if low < 10 {
+        d = low;
     }
-    16
+    d
 }
 
 // A pattern of 64 bits as 16 lower-case hexadecimal digits.
@@ -178,14 +223,18 @@ pub fn pattern(field: &[u8]) -> Bits
         return Bits::Bad;
     }
     let mut v: u64 = 0;
+    let mut worst: u8 = 0;
     let mut i = 0;
     while i < 16 {
         let d = hex_digit(field[i]);
-        if d == 16 {
-            return Bits::Bad;
+        if d > worst {
+            worst = d;
         }
-        v = v * 16 + d as u64;
+        v = v * 16 + (d % 16) as u64;
         i += 1;
+    }
+    if worst >= 16 {
+        return Bits::Bad;
     }
     Bits::Are(v)
 }
@@ -228,7 +277,7 @@ pub fn digit_count(v: u64) -> usize
 }
 
 // Writes the decimal digits of a number from a place on, the last one first, and gives the place behind them.
-pub fn put_number(out: &mut [u8], at: usize, v: u64) -> usize
+fn put_long(out: &mut [u8], at: usize, v: u64) -> usize
     requires { ⌜ at + length (spec.digitsBy 20 v) ≤ length (now out) ⌝ }
     ensures { λ r. ⌜ Wrote at (spec.digitsBy 20 v) (now (out .entry)) (now (out .exit)) r ⌝ }
 {
@@ -242,4 +291,33 @@ pub fn put_number(out: &mut [u8], at: usize, v: u64) -> usize
     }
     out[at] = b'0' + left as u8;
     end
+}
+
+// Writes a decimal digit at a place, and gives the place behind it.
+fn put_digit(out: &mut [u8], at: usize, d: u64) -> usize
+    requires { ⌜ (d < 10) × (at < length (now out)) ⌝ }
+    ensures { λ r. ⌜ Wrote at ((digitZero + d) ∷ []) (now (out .entry)) (now (out .exit)) r ⌝ }
+{
+    out[at] = b'0' + d as u8;
+    at + 1
+}
+
+// Writes the decimal digits of a number from a place on, and gives the place behind them: most numbers are short.
+pub fn put_number(out: &mut [u8], at: usize, v: u64) -> usize
+    requires { ⌜ at + length (spec.digitsBy 20 v) ≤ length (now out) ⌝ }
+    ensures { λ r. ⌜ Wrote at (spec.digitsBy 20 v) (now (out .entry)) (now (out .exit)) r ⌝ }
+{
+    if v < 10 {
+        return put_digit(out, at, v);
+    }
+    if v < 100 {
+        let ones = put_digit(out, at, v / 10);
+        return put_digit(out, ones, v % 10);
+    }
+    if v < 1000 {
+        let tens = put_digit(out, at, v / 10 / 10);
+        let ones = put_digit(out, tens, v / 10 % 10);
+        return put_digit(out, ones, v % 10);
+    }
+    put_long(out, at, v)
 }

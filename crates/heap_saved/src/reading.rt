@@ -11,7 +11,7 @@ ghost use Rattle.heap_entry.specs.Entry.{blank};
 ghost use Rattle.saved_text.specs.Reading.{readText};
 ghost use Rattle.saved_text.specs.Form.{OpensWith, opened as opening};
 ghost use Rattle.saved_state.specs.Entry as entry;
-ghost use Rattle.saved_state.specs.Pieces.{few, fewClauses, fewLiterals};
+ghost use Rattle.saved_state.specs.Pieces.{few, fewClauses, fewLiterals, more, moreClauses, moreLiterals};
 ghost use Rattle.heap_saved.specs.declared.loading.Loading.the-variants as a-session;
 ghost use Rattle.heap_saved.specs.Loading.{Loads};
 ghost use Rattle.heap_saved.specs.Reader.{heapReader, memoryOf};
@@ -42,6 +42,9 @@ use saved_state::saving::ALL;
 use saved_state::saving::FEW;
 use saved_state::saving::FEW_CLAUSES;
 use saved_state::saving::FEW_LITERALS;
+use saved_state::saving::MORE;
+use saved_state::saving::MORE_CLAUSES;
+use saved_state::saving::MORE_LITERALS;
 use saved_text::form::Opened;
 use saved_text::form::opening;
 use session::entry::trail_lengths;
@@ -225,6 +228,96 @@ fn read_few(
     )
 }
 
+// The same with more of them.
+fn read_more(
+    text: &[u8],
+    at: usize,
+    n: u32,
+    lits: &mut [u32],
+    ends: &mut [u32],
+    values: &mut [u8],
+    levels: &mut [u32],
+    reasons: &mut [u32],
+    trail: &mut [u32],
+    opened: &mut [u32],
+    activity: &mut [f64],
+    heap: &mut [u32],
+    indices: &mut [u32],
+    decision: &mut [u8],
+) -> HeapAnswer
+    requires { ⌜ OpensWith (now text) at (opening n false) × (n ≤ more) × (length (now lits) ≤ moreLiterals) × (length (now ends) ≤ moreClauses) ⌝ }
+    requires { ⌜ Lengths n (now values) (now levels) (now reasons) (now trail) (now opened) ⌝ }
+    requires { ⌜ (length (now activity) ≡ n) × (length (now heap) ≡ n) × (length (now indices) ≡ n) × (length (now decision) ≡ n) ⌝ }
+    ensures { λ r.
+        let before = memoryOf (now (lits .entry)) (now (ends .entry)) (now (values .entry)) (now (levels .entry)) (now (reasons .entry)) (now (trail .entry)) (now (opened .entry)) (now (activity .entry)) (now (heap .entry)) (now (indices .entry)) (now (decision .entry)) blank in
+        let after = memoryOf (now (lits .exit)) (now (ends .exit)) (now (values .exit)) (now (levels .exit)) (now (reasons .exit)) (now (trail .exit)) (now (opened .exit)) (now (activity .exit)) (now (heap .exit)) (now (indices .exit)) (now (decision .exit)) (r .state) in
+        ⌜ Answered (entry.read heapReader (now (text .entry)) before) before (r .status) (r .reply) after ⌝ }
+{
+    let mut own_lits = [0u32; MORE_LITERALS as usize];
+    let mut own_ends = [0u32; MORE_CLAUSES as usize];
+    let mut own_values = [0u8; MORE as usize];
+    let mut own_levels = [0u32; MORE as usize];
+    let mut own_reasons = [0u32; MORE as usize];
+    let mut own_trail = [0u32; MORE as usize];
+    let mut own_opened = [0u32; MORE as usize];
+    let mut own_activity = [ZERO_ACTIVITY; MORE as usize];
+    let mut own_heap = [0u32; MORE as usize];
+    let mut own_indices = [0u32; MORE as usize];
+    let mut own_decision = [0u8; MORE as usize];
+    let mut level_row = [0u32; MORE as usize];
+    let mut reason_row = [0u32; MORE as usize];
+    let mut switch_row = [0u32; MORE as usize];
+    let mut bits = [0u64; MORE as usize];
+    let Loading::Is(l) = load_front(
+        text,
+        at,
+        n,
+        &mut own_lits,
+        &mut own_ends,
+        &mut own_values,
+        &mut own_levels,
+        &mut own_reasons,
+        &mut own_trail,
+        &mut own_opened,
+        &mut own_activity,
+        &mut own_heap,
+        &mut own_indices,
+        &mut own_decision,
+        &mut level_row,
+        &mut reason_row,
+        &mut switch_row,
+        &mut bits,
+    ) else {
+        return refuse(BAD_SAVED, blank_state());
+    };
+    settle(
+        n,
+        l,
+        &own_lits,
+        &own_ends,
+        &own_values,
+        &own_levels,
+        &own_reasons,
+        &own_trail,
+        &own_opened,
+        &own_activity,
+        &own_heap,
+        &own_indices,
+        &own_decision,
+        lits,
+        ends,
+        values,
+        levels,
+        reasons,
+        trail,
+        opened,
+        activity,
+        heap,
+        indices,
+        decision,
+    )
+}
+
 // The same with as many as there may be.
 fn read_all(
     text: &[u8],
@@ -349,6 +442,24 @@ fn read_opened(
     }
     if n <= FEW && lits.len() <= FEW_LITERALS as usize && ends.len() <= FEW_CLAUSES as usize {
         return read_few(
+            text,
+            at,
+            n,
+            lits,
+            ends,
+            values,
+            levels,
+            reasons,
+            trail,
+            opened,
+            activity,
+            heap,
+            indices,
+            decision,
+        );
+    }
+    if n <= MORE && lits.len() <= MORE_LITERALS as usize && ends.len() <= MORE_CLAUSES as usize {
+        return read_more(
             text,
             at,
             n,

@@ -11,7 +11,7 @@ ghost use Rattle.list_entry.specs.Entry.{blank};
 ghost use Rattle.saved_text.specs.Reading.{readText};
 ghost use Rattle.saved_text.specs.Form.{OpensWith, opened as opening};
 ghost use Rattle.saved_state.specs.Entry as entry;
-ghost use Rattle.saved_state.specs.Pieces.{few, fewClauses, fewLiterals};
+ghost use Rattle.saved_state.specs.Pieces.{few, fewClauses, fewLiterals, more, moreClauses, moreLiterals};
 ghost use Rattle.list_saved.specs.declared.loading.Loading.the-variants as a-session;
 ghost use Rattle.list_saved.specs.Loading.{Loads};
 ghost use Rattle.list_saved.specs.Reader.{listReader, memoryOf};
@@ -40,6 +40,9 @@ use saved_state::saving::ALL;
 use saved_state::saving::FEW;
 use saved_state::saving::FEW_CLAUSES;
 use saved_state::saving::FEW_LITERALS;
+use saved_state::saving::MORE;
+use saved_state::saving::MORE_CLAUSES;
+use saved_state::saving::MORE_LITERALS;
 use saved_text::form::Opened;
 use saved_text::form::opening;
 use session::entry::trail_lengths;
@@ -157,6 +160,91 @@ fn read_few(
     let mut reason_row = [0u32; FEW as usize];
     let mut order = [0u32; FEW as usize];
     let mut stamp_row = [0u64; FEW as usize];
+    let Loading::Is(l) = load_front(
+        text,
+        at,
+        n,
+        &mut own_lits,
+        &mut own_ends,
+        &mut own_values,
+        &mut own_levels,
+        &mut own_reasons,
+        &mut own_trail,
+        &mut own_opened,
+        &mut own_next,
+        &mut own_prev,
+        &mut own_ts,
+        &mut level_row,
+        &mut reason_row,
+        &mut order,
+        &mut stamp_row,
+    ) else {
+        return refuse(BAD_SAVED, blank_state());
+    };
+    settle(
+        n,
+        l,
+        &own_lits,
+        &own_ends,
+        &own_values,
+        &own_levels,
+        &own_reasons,
+        &own_trail,
+        &own_opened,
+        &own_next,
+        &own_prev,
+        &own_ts,
+        lits,
+        ends,
+        values,
+        levels,
+        reasons,
+        trail,
+        opened,
+        next,
+        prev,
+        ts,
+    )
+}
+
+// The same with more of them.
+fn read_more(
+    text: &[u8],
+    at: usize,
+    n: u32,
+    lits: &mut [u32],
+    ends: &mut [u32],
+    values: &mut [u8],
+    levels: &mut [u32],
+    reasons: &mut [u32],
+    trail: &mut [u32],
+    opened: &mut [u32],
+    next: &mut [u32],
+    prev: &mut [u32],
+    ts: &mut [u64],
+) -> ListAnswer
+    requires { ⌜ OpensWith (now text) at (opening n true) × (n ≤ more) × (length (now lits) ≤ moreLiterals) × (length (now ends) ≤ moreClauses) ⌝ }
+    requires { ⌜ Lengths n (now values) (now levels) (now reasons) (now trail) (now opened) ⌝ }
+    requires { ⌜ (length (now next) ≡ n) × (length (now prev) ≡ n) × (length (now ts) ≡ n) ⌝ }
+    ensures { λ r.
+        let before = memoryOf (now (lits .entry)) (now (ends .entry)) (now (values .entry)) (now (levels .entry)) (now (reasons .entry)) (now (trail .entry)) (now (opened .entry)) (now (next .entry)) (now (prev .entry)) (now (ts .entry)) blank in
+        let after = memoryOf (now (lits .exit)) (now (ends .exit)) (now (values .exit)) (now (levels .exit)) (now (reasons .exit)) (now (trail .exit)) (now (opened .exit)) (now (next .exit)) (now (prev .exit)) (now (ts .exit)) (r .state) in
+        ⌜ Answered (entry.read listReader (now (text .entry)) before) before (r .status) (r .reply) after ⌝ }
+{
+    let mut own_lits = [0u32; MORE_LITERALS as usize];
+    let mut own_ends = [0u32; MORE_CLAUSES as usize];
+    let mut own_values = [0u8; MORE as usize];
+    let mut own_levels = [0u32; MORE as usize];
+    let mut own_reasons = [0u32; MORE as usize];
+    let mut own_trail = [0u32; MORE as usize];
+    let mut own_opened = [0u32; MORE as usize];
+    let mut own_next = [0u32; MORE as usize];
+    let mut own_prev = [0u32; MORE as usize];
+    let mut own_ts = [0u64; MORE as usize];
+    let mut level_row = [0u32; MORE as usize];
+    let mut reason_row = [0u32; MORE as usize];
+    let mut order = [0u32; MORE as usize];
+    let mut stamp_row = [0u64; MORE as usize];
     let Loading::Is(l) = load_front(
         text,
         at,
@@ -322,6 +410,23 @@ fn read_opened(
     }
     if n <= FEW && lits.len() <= FEW_LITERALS as usize && ends.len() <= FEW_CLAUSES as usize {
         return read_few(
+            text,
+            at,
+            n,
+            lits,
+            ends,
+            values,
+            levels,
+            reasons,
+            trail,
+            opened,
+            next,
+            prev,
+            ts,
+        );
+    }
+    if n <= MORE && lits.len() <= MORE_LITERALS as usize && ends.len() <= MORE_CLAUSES as usize {
+        return read_more(
             text,
             at,
             n,

@@ -1,3 +1,2 @@
 -- What holds of runs with saved sessions.
 pub mod Small
-pub mod Loaded

@@ -1,6 +1,6 @@
 -- What hosts get of a run, from what code tells of it; and the refusals 1 and 2 by the sheet. Assumes nothing.
 use Prim.Native.Nat.{ℕ, _*_, _-_, _≤_, _<_}
-use mathlib.Core.Path.{_≡_, refl, sym, ap, _∙_}
+use mathlib.Core.Path.{_≡_, refl, ap}
 use mathlib.Core.List.{List}
 use native.Mathlib.Omega.{arith}
 use borrow.Author.Tests.{le-leb, lt-leb}
@@ -9,10 +9,11 @@ use Rattle.lit.specs.Numbers.{NONE, maxSheet, answerRoom, longSheet, shortBuffe
 use Rattle.book.specs.Session.{Result, done, refuse, need}
 use Rattle.forms.specs.Text.{newline, occurs}
 use Rattle.saved_sheet.specs.Sheets.{taken}
-use Rattle.saved_desk.specs.declared.Both.{Both}
-use Rattle.saved_desk.specs.declared.Outcome as code
-use Rattle.saved_desk.specs.declared.Outcome.the-variants as outcome
-use Rattle.saved_desk.specs.Outcomes.{Comes, Gives}
+use Rattle.saved_run.specs.declared.Both.{Both}
+use Rattle.saved_run.specs.declared.Outcome as code
+use Rattle.saved_run.specs.declared.Outcome.the-variants as outcome
+use Rattle.saved_run.specs.Outcomes.{Comes}
+use Rattle.saved_desk.specs.Outcomes.{Gives}
 
 -- ---- 1 and 2
 module _ {S : Type 0} (sheet : List ℕ) (room : ℕ) (x : Result S) where

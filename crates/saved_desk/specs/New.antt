@@ -2,14 +2,14 @@
 use Prim.Native.Nat.{ℕ, _+_, _≤_, _<_}
 use mathlib.Core.Path.{_≡_, refl, sym, ap, subst, _∙_}
 use mathlib.Core.Bool.{Bool, true, false}
-use mathlib.Core.Option.{Option, none, some}
-use mathlib.Core.List.{List, [], _∷_, _++_}
+use mathlib.Core.Option.{none, some}
+use mathlib.Core.List.{List, [], _++_}
 use native.Mathlib.Omega.{arith}
 use borrow.Author.Tests.{le-leb, lt-leb}
 use lib.Dec.{leb}
 use lib.ListN.{length, take}
 use Rattle.lit.specs.Numbers.{maxVars, maxClauses, maxLiterals, manyVars, shortBuffer}
-use Rattle.book.specs.Session.{Result, done, refuse, need}
+use Rattle.book.specs.Session.{Result, done, need}
 use Rattle.forms.specs.Text.{newline, lines, occurs, written}
 use Rattle.forms.specs.TextLaws.{lines-end}
 use Rattle.forms.specs.declared.First as code
@@ -20,17 +20,17 @@ use Rattle.saved_text.specs.Puts.{Puts}
 use Rattle.sheet.specs.declared.Place.{Place}
 use Rattle.sheet.specs.declared.clauses.Section.{Section}
 use Rattle.sheet.specs.Sheet.{answerLine, ClauseList, clauseLines, listed, opening, answered}
-use Rattle.sheet.specs.Stages.{reading, onList, opened, answers, started, stageBehind}
-use Rattle.sheet.specs.Running.{linesFrom, lineLength, after, nextClause, Room, Holds, stageOf, SoFar}
+use Rattle.sheet.specs.Stages.{reading, onList, opened, answers, started}
+use Rattle.sheet.specs.Running.{linesFrom, lineLength, after, nextClause, Room, stageOf, SoFar}
 use Rattle.sheet.specs.ClauseLines.{listed-good, no-clause-line}
 use Rattle.sheet.specs.Section.{session-ended, section-ended}
 use Rattle.sheet.specs.Opening.{modeOf, openingAt, openingOf, atFirst, first-told, first-lines, first-answers, no-clauses}
 use Rattle.saved_sheet.specs.Sheets.{textHeld, textRoom, withText, heldBehind, heldFirst, heldBy, withTextOf}
-use Rattle.saved_desk.specs.declared.Both.{Both}
-use Rattle.saved_desk.specs.declared.Outcome.the-variants as outcome
-use Rattle.saved_desk.specs.Outcomes.{Comes}
-use Rattle.saved_desk.specs.Ends.{stageText, Saves}
-use Rattle.saved_desk.specs.Behind.{text-behind, text-over, list-over}
+use Rattle.saved_run.specs.declared.Both.{Both}
+use Rattle.saved_run.specs.declared.Outcome.the-variants as outcome
+use Rattle.saved_run.specs.Outcomes.{Comes}
+use Rattle.saved_run.specs.Ends.{stageText, Saves}
+use Rattle.saved_run.specs.Behind.{text-behind, text-over, list-over}
 
 -- the room that the text needs of the session over n variables which lines behind a first line make
 abbrev pub roomBehind : ℕ → List (List ℕ) → ℕ
@@ -59,10 +59,6 @@ module _ {n : ℕ} {sheet : List ℕ} {s u : Section} {out lits ends out′ lits
   -- so there is room for the text of its session
   pub section-room : (space : ℕ) → s .literals ≡ 0 → s .clauses ≡ 0 → roomBehind n (linesFrom sheet (s .place .from)) ≤ space → textRoom n (length (take (u .clauses) ends′)) (length (take (u .literals) lits′)) ≤ space
   section-room space a b h = subst (λ (l : ClauseList). textRoom n (length (l .1)) (length (l .0)) ≤ space) (sym (rw (a, b) at section-list)) h
-
--- slices of the same lengths hold the same clause lists
-pub still-holds : {sheet lits ends lits′ ends′ : List ℕ} → length lits′ ≡ length lits → length ends′ ≡ length ends → Holds sheet lits ends → Holds sheet lits′ ends′
-still-holds a b h = record { codes = λ k few short. omega (arith, h .codes k few short, a); clauses = λ k few short. omega (arith, h .clauses k few short, b) }
 
 -- without clause lines there are none
 pub room-none : (n : ℕ) (ls : List (List ℕ)) → nextClause ls ≡ false → roomBehind n ls ≡ textRoom n 0 0

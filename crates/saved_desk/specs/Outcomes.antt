@@ -1,4 +1,4 @@
--- What a run with a saved session gives: as code tells it, and as a host gets it.
+-- What a host gets of a run with a saved session.
 use Prim.Native.Nat.{ℕ, _-_}
 use mathlib.Core.Path.{_≡_}
 use mathlib.Core.List.{List}
@@ -6,13 +6,6 @@ use lib.ListN.{length}
 use Rattle.lit.specs.Numbers.{NONE}
 use Rattle.book.specs.Session.{Result, done, refuse}
 use Rattle.forms.specs.Text.{written}
-use Rattle.saved_desk.specs.declared.Outcome as code
-use Rattle.saved_desk.specs.declared.Outcome.the-variants as outcome
-
--- answers and a text are written, each at the front of its buffer, and counted; refused, nothing changes
-abbrev pub Comes : Result (List ℕ × List ℕ) → (out text : List ℕ) → code.Outcome → (out′ text′ : List ℕ) → Type 0
-Comes (done r both) out text k out′ text′ = (k ≡ outcome.Written (record { answers = length (both .0); text = length (both .1) })) × (out′ ≡ written 0 (both .0) out) × (text′ ≡ written 0 (both .1) text)
-Comes (refuse j) out text k out′ text′ = (k ≡ outcome.Refused j) × (out′ ≡ out) × (text′ ≡ text)
 
 -- 'the byte count of the answers, or 4294967295 minus the refusal', and the byte count of the text where it is written
 abbrev pub Gives : Result (List ℕ × List ℕ) → (out text : List ℕ) → ℕ → (k : ℕ) (out′ text′ : List ℕ) → ℕ → Type 0

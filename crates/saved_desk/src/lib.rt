@@ -1,7 +1,8 @@
 // Sheets with saved sessions, from bytes to bytes: a sheet whose session is saved at its end, and a sheet of calls on a saved session, with the entries that hosts in C and Rust link.
 ghost use lib.ListN.{length};
 ghost use Rattle.saved_sheet.specs.Sheets.{ranNew, ranOn};
-ghost use Rattle.saved_desk.specs.Outcomes.{Comes, Gives};
+ghost use Rattle.saved_run.specs.Outcomes.{Comes};
+ghost use Rattle.saved_desk.specs.Outcomes.{Gives};
 use crate::carrying::on_text;
 use crate::opening::from_first;
 use forms::text::NEWLINE;
@@ -10,27 +11,11 @@ use lit::LONG_SHEET;
 use lit::MAX_SHEET;
 use lit::NONE;
 use lit::SHORT_BUFFER;
+use saved_run::Both;
+use saved_run::Outcome;
 
 pub mod carrying;
-pub mod heap_new;
-pub mod heap_on;
-pub mod heap_run;
-pub mod list_new;
-pub mod list_on;
-pub mod list_run;
 pub mod opening;
-
-// How many bytes a run has written: of answers, and of the text of its session.
-pub struct Both {
-    pub answers: usize,
-    pub text: usize,
-}
-
-// That, or the refusal of the whole run.
-pub enum Outcome {
-    Written(Both),
-    Refused(u32),
-}
 
 // Runs a sheet, and writes the text of its session as it is at the end. Without a session there is no text.
 pub fn run_new(sheet: &[u8], answers: &mut [u8], text: &mut [u8]) -> Outcome

@@ -21,3 +21,4 @@ pub mod Judging
 pub mod Answering
 pub mod Asked
 pub mod Pieces
+pub mod Examples

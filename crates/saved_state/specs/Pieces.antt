@@ -42,15 +42,24 @@ joined a b c d e f g = simp append-assoc
 abbrev pub longest : ℕ → ℕ → ℕ → ℕ
 longest n clauses literals = 80 + 41 * n + 2 * clauses + 5 * literals
 
--- so many variables, clauses and literals the shorter of two scratches has room for; `src/saving.rt` has the same numbers for code
+-- so many variables, clauses and literals the shorter scratches have room for; `src/saving.rt` has the same numbers for code
 abbrev pub few : ℕ
-few = 384
+few = 64
 
 abbrev pub fewClauses : ℕ
-fewClauses = 256
+fewClauses = 64
 
 abbrev pub fewLiterals : ℕ
-fewLiterals = 1024
+fewLiterals = 256
+
+abbrev pub more : ℕ
+more = 512
+
+abbrev pub moreClauses : ℕ
+moreClauses = 512
+
+abbrev pub moreLiterals : ℕ
+moreLiterals = 2048
 
 -- the text is these, and the lines of the chooser
 pub text-pieces : (mode : Mode) (n : ℕ) (lits ends : List ℕ) (t : Trail) (rows : List (List ℕ))

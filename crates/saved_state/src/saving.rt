@@ -26,11 +26,17 @@ use saved_text::writing::put_first;
 use saved_text::writing::put_words;
 
 // How many variables, and for a reader how many clauses and literals, a scratch has room for: setting up a long one costs more than a short text.
-pub const FEW: u32 = 384;
+pub const FEW: u32 = 64;
 
-pub const FEW_CLAUSES: u32 = 256;
+pub const FEW_CLAUSES: u32 = 64;
 
-pub const FEW_LITERALS: u32 = 1024;
+pub const FEW_LITERALS: u32 = 256;
+
+pub const MORE: u32 = 512;
+
+pub const MORE_CLAUSES: u32 = 512;
+
+pub const MORE_LITERALS: u32 = 2048;
 
 pub const ALL: u32 = MAX_VARS + 16;
 

@@ -10,6 +10,7 @@ use forms::text::Field;
 use forms::text::NEWLINE;
 use forms::text::TAB;
 use forms::text::digits_at;
+use forms::text::small_digits_at;
 use lit::NONE;
 
 // How the numbers of a line are written that fit 32 bits: in decimal up to the greatest that may stand there, or as reasons.
@@ -48,7 +49,7 @@ fn reason_at(text: &[u8], at: usize) -> Field
     if at < text.len() && text[at] == DASH {
         return Field::Is(NONE as u64, at + 1);
     }
-    digits_at(text, at, NONE as u64 - 1)
+    small_digits_at(text, at, NONE - 1)
 }
 
 // The field at a place: 64 bits as 16 hexadecimal digits.
@@ -71,7 +72,7 @@ fn word_at(text: &[u8], at: usize, kind: Word) -> Field
     ensures { λ r. ⌜ FieldRead (wordKind kind) (now (text .entry)) at r × Small r ⌝ }
 {
     match kind {
-        Word::UpTo(top) => digits_at(text, at, top as u64),
+        Word::UpTo(top) => small_digits_at(text, at, top),
         Word::Reason => reason_at(text, at),
     }
 }

@@ -32,10 +32,24 @@ fn hex_byte(d: u8) -> u8
     requires { ⌜ d < 16 ⌝ }
     ensures { λ r. ⌜ r ≡ hexByte d ⌝ }
 {
-    if d < 10 {
-        return b'0' + d;
+    match d {
+        0 => b'0',
+        1 => b'1',
+        2 => b'2',
+        3 => b'3',
+        4 => b'4',
+        5 => b'5',
+        6 => b'6',
+        7 => b'7',
+        8 => b'8',
+        9 => b'9',
+        10 => b'a',
+        11 => b'b',
+        12 => b'c',
+        13 => b'd',
+        14 => b'e',
+        _ => b'f',
     }
-    b'a' - 10 + d
 }
 
 // Writes 64 bits as 16 hexadecimal digits from a place on, the last one first, and gives the place behind them.

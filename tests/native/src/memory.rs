@@ -27,7 +27,7 @@ numbers!(u8, u32, u64);
 
 impl Word for f64 {
     fn bits(self) -> u64 {
-        if self.is_nan() { f64::NAN } else { self }.to_bits()
+        self.to_bits()
     }
 
     fn of(bits: u64) -> Self {

@@ -40,6 +40,7 @@ use judge::{differ, Difference, Judge, Outcome};
 use reference::{
     generator::{saved_examples, Rng},
     native::{HeapMemory, ListMemory},
+    saved::{self, Mode},
 };
 use sizes::{sizes, Sized};
 use states::STATES;
@@ -56,7 +57,7 @@ fn examples(root: &Path, judge: &mut Judge) -> Outcome<()> {
     sheets::shown(&page, judge)?;
     for text in saved_examples(&page) {
         sessions::other_mode(judge, &text)?;
-        if text.starts_with(b"n\t2\tvmtf") {
+        if saved::counts(&text).is_ok_and(|counts| counts.mode == Mode::Vmtf) {
             judge.must_get::<ListMemory>(0, "the page's list", &text)?;
             sessions::damage::<ListMemory>(judge, &text)?;
         } else {

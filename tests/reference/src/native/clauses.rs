@@ -30,13 +30,18 @@ impl Clauses {
         self.lits.len() == self.literals as usize && self.ends.len() == self.clauses as usize
     }
 
-    /// The clauses as a session has them, over n variables.
-    pub fn formula(&self, n: usize) -> Result<Formula, Refusal> {
+    /// Whether the clauses are good over n variables.
+    pub fn are_good(&self, n: usize) -> bool {
         let few = self.ends.len() <= MAX_CLAUSES && self.lits.len() <= MAX_LITERALS;
         let rising = self.ends.windows(2).all(|pair| pair[0] <= pair[1]);
         let last = self.ends.last().copied().unwrap_or(0);
         let below = self.lits.iter().all(|code| code / 2 < n as u32);
-        if !(few && rising && last as usize == self.lits.len() && below) {
+        few && rising && last as usize == self.lits.len() && below
+    }
+
+    /// The clauses as a session has them, over n variables.
+    pub fn formula(&self, n: usize) -> Result<Formula, Refusal> {
+        if !self.are_good(n) {
             return Err(Refusal::ClauseList);
         }
         let lits = self.lits.iter().copied().map(Lit::from_code).collect();

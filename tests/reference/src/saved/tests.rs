@@ -12,6 +12,8 @@ fn bytes(text: &str) -> Vec<u8> {
 const HEAP: &str = "n|2|vsids c|1|3 t|1 l|1 r|- q|0 h|1 a|0000000000000000|0000000000000000 o|1|1 w|3ff0000000000000|3fee666666666666";
 const LIST: &str = "n|2|vmtf t l r q|0 v|0|1 s|2|1 k|3 f|0";
 
+const NONE: u32 = u32::MAX;
+
 /// A heap session of three variables, all of them on the trail at levels 0, 1 and 1, with two members.
 const FULL_HEAP: &str = "n|3|vsids c|1|3 c t|1|2|5 l|0|1|1 r|0|-|1 q|3 h|2|0 \
     a|4008000000000000|0000000000000000|4008000000000000 o|1|0|1 w|3ff0000000000000|3ff0000000000000";
@@ -62,8 +64,18 @@ fn the_examples_are_written_and_read_back() {
 #[test]
 fn the_documents_texts_are_read_and_written_back() {
     let texts = saved_examples(include_str!("../../../../docs/SAVED.md"));
-    assert_eq!(texts, [bytes(HEAP), bytes(LIST)]);
+    let [heap, full_heap, full_list, list] = &texts[..] else { panic!("four texts") };
+    assert_eq!((heap, list), (&bytes(HEAP), &bytes(LIST)));
     texts.iter().for_each(|text| check_read_and_written_back(text));
+    let heap = HeapMemory::of(&read(full_heap).unwrap());
+    assert_eq!((heap.trail.values, heap.trail.levels, heap.trail.reasons), (vec![0, 2, 1], vec![1, NONE, 0], vec![NONE, NONE, 1]));
+    assert_eq!((heap.trail.trail, heap.trail.opened, heap.trail.curr_i), (vec![5, 0, NONE], vec![1, NONE, NONE], 1));
+    assert_eq!((heap.heap, heap.indices, heap.decision), (vec![2, 1, NONE], vec![NONE, 1, 0], vec![0, 1, 1]));
+    assert_eq!((heap.activity, heap.inc, heap.decay), (vec![1.0, 2.0, 3.0], 2.0, 0.75));
+    let list = ListMemory::of(&read(full_list).unwrap());
+    assert_eq!((list.trail.values, list.trail.levels, list.trail.reasons), (vec![0, 1, 2], vec![1, 1, NONE], vec![0, NONE, NONE]));
+    assert_eq!((list.next, list.prev, list.ts), (vec![1, NONE, 0], vec![2, 0, NONE], vec![5, 2, 9]));
+    assert_eq!((list.start, list.search, list.timestamp), (2, 2, 10));
 }
 
 #[test]

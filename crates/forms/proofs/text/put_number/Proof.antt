@@ -1,87 +1,74 @@
--- `forms::text::put_number` meets its contract: the decimals 18 left, written before the place, still give the whole number's.
-use Prim.Native.Nat.{_≤_, _+_, _-_, _/_, _%_}
-use mathlib.Core.Path.{_≡_, _∙_, refl, sym}
+-- `forms::text::put_number` meets its contract: a number of up to three digits is its digits one behind the other.
+use Prim.Native.Nat.{ℕ, _≤_, _<_, _+_, _/_, _%_}
+use mathlib.Core.Path.{_≡_, _∙_, ap}
+use mathlib.Core.List.{List, [], _∷_, _++_}
 use native.Mathlib.Omega.{arith}
-use lib.ListN.{length, length-set}
+use borrow.Author.Needs.{needs}
+use lib.ListN.{length}
 use Rattle.forms.specs.Letters.{digitZero}
-use Rattle.forms.specs.Text.{written}
-use Rattle.forms.specs.TextLaws.{decimals, decimals-length, decimals-last-first, put-decimal, digits-some}
+use Rattle.forms.specs.TextLaws.{decimals, decimals-one, decimals-step}
+use Rattle.forms.specs.Written.{Wrote, put-more, same-room}
 use Rattle.forms.proofs.text.put_number.Statement.{statement}
 use Rattle.forms.proofs.text.put_number.Tie as tie
 
-abbrev Inv-loop : tie.InvT-loop
-Inv-loop out₀ at v end left₀ i₀ out left i =
-    ((left ≤ v) × (i ≤ at + length (decimals 18 v))) × ((i ≡ at + length (decimals 18 left)) × ((length out ≡ length out₀) × (written at (decimals 18 left) out ≡ written at (decimals 18 v) out₀)))
+one : (v : ℕ) → v < 10 → decimals 18 v ≡ (digitZero + v) ∷ []
+one v h = decimals-one 18 v h
 
-abbrev μ-loop : tie.MeasureT-loop
-μ-loop out₀ at v end left₀ i₀ out left i = left
+two : (v : ℕ) → 10 ≤ v → v < 100 → decimals 18 v ≡ (digitZero + v / 10) ∷ ((digitZero + v % 10) ∷ [])
+two v l h = decimals-step 18 v l (omega (arith, h)) ∙ ap (λ (d : List ℕ). d ++ ((digitZero + v % 10) ∷ [])) (one (v / 10) (omega (arith, h)))
 
-add-end : tie.Need-add-end Inv-loop μ-loop
-add-end c = omega arith
+three : (v : ℕ) → 100 ≤ v → v < 1000 → decimals 18 v ≡ (digitZero + v / 10 / 10) ∷ ((digitZero + v / 10 % 10) ∷ ((digitZero + v % 10) ∷ []))
+three v l h = decimals-step 18 v (omega (arith, l)) (omega (arith, h)) ∙ ap (λ (d : List ℕ). d ++ ((digitZero + v % 10) ∷ [])) (two (v / 10) (omega (arith, l)) (omega (arith, h)))
 
-loop-holds : tie.Need-loop-holds Inv-loop μ-loop
-loop-holds c = ((omega arith, omega arith), (omega arith, (omega arith, refl)))
+put-digit-requires : tie.Need-put-digit-requires
+put-digit-requires c κs = (c .before .if1 .taken, omega (arith, c .before .before .before .pre, ap length (one (c .before .before .before .args .v) (c .before .if1 .taken))))
 
-sub-i : tie.Need-sub-i Inv-loop μ-loop
-sub-i c = omega (arith, digits-some 19 (c .before .loop .left))
+returns : tie.Need-returns
+returns c = rw (one (c .before .before .before .before .before .before .args .v) (c .before .before .before .before .if1 .taken)) (c .before .before .put-digit .ensures)
 
-cast-out : tie.Need-cast-out Inv-loop μ-loop
-cast-out c = omega arith
+put-digit-requires-2 : tie.Need-put-digit-requires-2
+put-digit-requires-2 c κs = (omega (arith, c .before .if2 .taken), omega (arith, c .before .before .before .before .pre, ap length (two (c .before .before .before .before .args .v) (c .before .before .if1 .left) (c .before .if2 .taken))))
 
-add-out : tie.Need-add-out Inv-loop μ-loop
-add-out c = omega arith
+put-digit-requires-3 : tie.Need-put-digit-requires-3
+put-digit-requires-3 c κs =
+    let w = c .before .before .before .put-digit2 .ensures in
+    (omega arith, omega (arith, w .place, same-room w, c .before .before .before .before .before .before .before .before .pre, ap length (two (c .before .before .before .before .before .before .before .before .args .v) (c .before .before .before .before .before .before .if1 .left) (c .before .before .before .before .before .if2 .taken))))
 
-slice-write-out : tie.Need-slice-write-out Inv-loop μ-loop
-slice-write-out c = omega (arith, digits-some 19 (c .before .loop .left))
+returns-2 : tie.Need-returns-2
+returns-2 c = rw (two (c .before .before .before .before .before .before .before .before .before .before .before .args .v) (c .before .before .before .before .before .before .before .before .before .if1 .left) (c .before .before .before .before .before .before .before .before .if2 .taken)) (put-more (c .before .before .before .before .before .before .put-digit2 .ensures) (c .before .before .put-digit3 .ensures))
 
-loop-less : tie.Need-loop-less Inv-loop μ-loop
-loop-less c = omega arith
+put-digit-requires-4 : tie.Need-put-digit-requires-4
+put-digit-requires-4 c κs = (omega (arith, c .before .if3 .taken), omega (arith, c .before .before .before .before .before .pre, ap length (three (c .before .before .before .before .before .args .v) (c .before .before .if2 .left) (c .before .if3 .taken))))
 
-loop-again : tie.Need-loop-again Inv-loop μ-loop
-loop-again c =
-    let a = c .before .before .before .before .args in
-    let at = c .before .loop in
-    let e : at .i - 1 ≡ a .at + length (decimals 18 (at .left / 10)) = omega (arith, decimals-length 18 (at .left) (omega arith) (omega arith)) in
-    let w = sym (decimals-last-first 18 (a .at) (at .left) (at .out) (omega arith) (omega arith)) ∙ at .inv .1 .1 .1 in
-    ((omega arith, omega arith), (e, (length-set (at .out) (at .i - 1) (digitZero + at .left % 10) ∙ at .inv .1 .1 .0, rw e w)))
+put-digit-requires-5 : tie.Need-put-digit-requires-5
+put-digit-requires-5 c κs =
+    let w = c .before .before .before .put-digit4 .ensures in
+    (omega arith, omega (arith, w .place, same-room w, c .before .before .before .before .before .before .before .before .before .pre, ap length (three (c .before .before .before .before .before .before .before .before .before .args .v) (c .before .before .before .before .before .before .if2 .left) (c .before .before .before .before .before .if3 .taken))))
 
-cast-out-2 : tie.Need-cast-out-2 Inv-loop μ-loop
-cast-out-2 c = omega arith
+put-digit-requires-6 : tie.Need-put-digit-requires-6
+put-digit-requires-6 c κs =
+    let w = put-more (c .before .before .before .before .before .before .before .put-digit4 .ensures) (c .before .before .before .put-digit5 .ensures) in
+    (omega arith, omega (arith, w .place, same-room w, c .before .before .before .before .before .before .before .before .before .before .before .before .before .pre, ap length (three (c .before .before .before .before .before .before .before .before .before .before .before .before .before .args .v) (c .before .before .before .before .before .before .before .before .before .before .if2 .left) (c .before .before .before .before .before .before .before .before .before .if3 .taken))))
 
-add-out-2 : tie.Need-add-out-2 Inv-loop μ-loop
-add-out-2 c = omega arith
-
-slice-write-out-2 : tie.Need-slice-write-out-2 Inv-loop μ-loop
-slice-write-out-2 c = omega (arith, digits-some 19 (c .before .before .before .before .args .v))
-
-same-length : tie.Need-same-length Inv-loop μ-loop
-same-length c =
-    let at = c .before .loop in
-    length-set (at .out) (c .before .before .before .before .args .at) (digitZero + at .left) ∙ at .inv .1 .1 .0
-
-returns : tie.Need-returns Inv-loop μ-loop
-returns c =
-    let a = c .before .before .before .before .args in
-    let at = c .before .loop in
-    record { buffer = put-decimal 18 (a .at) (at .left) (at .out) (omega arith) ∙ at .inv .1 .1 .1; place = omega arith }
+returns-3 : tie.Need-returns-3
+returns-3 c = rw (three (c .before .before .before .before .before .before .before .before .before .before .before .before .before .before .before .before .args .v) (c .before .before .before .before .before .before .before .before .before .before .before .before .before .if2 .left) (c .before .before .before .before .before .before .before .before .before .before .before .before .if3 .taken)) (put-more (put-more (c .before .before .before .before .before .before .before .before .before .before .put-digit4 .ensures) (c .before .before .before .before .before .before .put-digit5 .ensures)) (c .before .before .put-digit6 .ensures))
 
 pub put-number-spec : {M : Type 1} → statement M
 put-number-spec =
     tie.close
     (tie.spec
-    Inv-loop
-    μ-loop
-    (λ c κs. tt)
-    add-end
-    loop-holds
-    sub-i
-    cast-out
-    add-out
-    slice-write-out
-    loop-less
-    loop-again
-    cast-out-2
-    add-out-2
-    slice-write-out-2
-    same-length
-    returns)
+    put-digit-requires
+    (λ c. search needs)
+    returns
+    put-digit-requires-2
+    put-digit-requires-3
+    (λ c. search needs)
+    returns-2
+    put-digit-requires-4
+    put-digit-requires-5
+    put-digit-requires-6
+    (λ c. search needs)
+    returns-3
+    (λ c κs. search needs)
+    (λ c. search needs)
+    (λ c. search needs))

@@ -4,7 +4,7 @@ use mathlib.Core.List.{map}
 use lib.ListN.{length}
 use Rattle.forms.specs.Text.{lines}
 use Rattle.forms.specs.Forms.{callIn}
-use Rattle.saved_desk.specs.Carried.{held-none, came-refused}
+use Rattle.saved_run.specs.Carried.{held-none, came-refused}
 use borrow.Author.Needs.{needs}
 use Rattle.saved_desk.proofs.carrying.on_text.Statement.{statement}
 use Rattle.saved_desk.proofs.carrying.on_text.Tie as tie

@@ -5,7 +5,7 @@ use mathlib.Core.Option.{none}
 use native.Mathlib.Omega.{arith}
 use Rattle.forms.specs.Text.{written}
 use Rattle.sheet.specs.Bounds.{answer-short}
-use Rattle.saved_desk.specs.declared.Outcome.the-variants as outcome
+use Rattle.saved_run.specs.declared.Outcome.the-variants as outcome
 use borrow.Author.Needs.{needs}
 use Rattle.saved_desk.proofs.opening.refused_first.Statement.{statement}
 use Rattle.saved_desk.proofs.opening.refused_first.Tie as tie

@@ -1,6 +1,6 @@
 -- `saved_desk::opening::text_fits` meets its contract: what the clause lines count is the clause list of the session.
 use Prim.Native.Nat.{ℕ}
-use mathlib.Core.Path.{_≡_, sym, ap, _∙_}
+use mathlib.Core.Path.{sym, ap, _∙_}
 use mathlib.Core.List.{[]}
 use native.Mathlib.Omega.{arith}
 use borrow.Author.Tests.{le-leb}

@@ -9,7 +9,8 @@ use lib.Seq.{length-take-le}
 use Rattle.sheet.specs.Running.{linesFrom}
 use Rattle.sheet.specs.Steps.{line-inside}
 use Rattle.sheet.specs.Opening.{modeOf, first-fits, first-room, second-room, ready-first}
-use Rattle.saved_desk.specs.New.{roomBehind, still-holds, section-room, section-saves, new-short, new-saved}
+use Rattle.saved_run.specs.Holding.{still-holds}
+use Rattle.saved_desk.specs.New.{roomBehind, section-room, section-saves, new-short, new-saved}
 use borrow.Author.Needs.{needs}
 use Rattle.saved_desk.proofs.opening.with_clauses.Statement.{statement}
 use Rattle.saved_desk.proofs.opening.with_clauses.Tie as tie

@@ -13,7 +13,7 @@ returns : tie.Need-returns
 returns c = dash-field _ _ (c .before .before .if1 .taken) (eqb-true _ _ (c .if2 .taken))
 
 returns-2 : tie.Need-returns-2
-returns-2 c = reason-field _ _ (λ h e. ⊎-elim (λ w. eqb-false _ _ (w .2 .left) e) (λ w. omega (arith, w .left)) (c .before .if1 .came)) (rw (c .digits-at .ensures) (digits-field _ _ (NONE - 1) (omega arith)))
+returns-2 c = reason-field _ _ (λ h e. ⊎-elim (λ w. eqb-false _ _ (w .2 .left) e) (λ w. omega (arith, w .left)) (c .before .if1 .came)) (rw (c .small-digits-at .ensures) (digits-field _ _ (NONE - 1) (omega arith)))
 
 pub reason-at-spec : {M : Type 1} → statement M
 reason-at-spec =
@@ -23,7 +23,6 @@ reason-at-spec =
     (λ c. search needs)
     (λ c. search needs)
     returns
-    (λ c. search needs)
     (λ c. search needs)
     (λ c κs. search needs)
     returns-2)
