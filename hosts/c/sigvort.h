@@ -534,7 +534,7 @@ static inline uint32_t sigvort_heap_to_text(const struct sigvort_heap *s, uint8_
 }
 
 /* Reads a session into the memory of s, and its clauses into lits and ends, which s lends from then on: sigvort_heap_read. The text's counts are s->n,
-   literals and clauses. Where it is refused, s stays as it was. */
+   literals and clauses; an s->n above 2,048 counts as 2,048, and s->n is what was read. Where the text is refused, s stays as it was. */
 static inline uint32_t sigvort_heap_from_text(
     struct sigvort_heap *s, const uint8_t *text, size_t text_len, uint32_t *lits, size_t literals, uint32_t *ends, size_t clauses)
 {
@@ -573,7 +573,7 @@ static inline uint32_t sigvort_list_to_text(const struct sigvort_list *s, uint8_
 }
 
 /* Reads a session into the memory of s, and its clauses into lits and ends, which s lends from then on: sigvort_list_read. The text's counts are s->n,
-   literals and clauses. Where it is refused, s stays as it was. */
+   literals and clauses; an s->n above 2,048 counts as 2,048, and s->n is what was read. Where the text is refused, s stays as it was. */
 static inline uint32_t sigvort_list_from_text(
     struct sigvort_list *s, const uint8_t *text, size_t text_len, uint32_t *lits, size_t literals, uint32_t *ends, size_t clauses)
 {

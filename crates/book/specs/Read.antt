@@ -1,14 +1,14 @@
 -- Calls as they were read, `none` where something has not the form of a call: the calls among them, one of them on a session, and what the log
 -- of their run says.
 use Prim.Native.Nat.{ℕ}
-use mathlib.Core.Path.{_≡_, refl, sym, ap, _∙_}
+use mathlib.Core.Path.{_≡_, refl, sym, _∙_}
 use mathlib.Core.Option.{Option, none, some}
 use mathlib.Core.List.{List, [], _∷_, _++_, reverse, append-nil, append-assoc, reverse-cons}
 use Rattle.lit.specs.Numbers.{badLine}
 use Rattle.book.specs.Calls.{Call, Line}
 use Rattle.book.specs.Chooser.{Operations}
 use Rattle.book.specs.Session.{Result, refuse, leaves, logLine, Session, call}
-use Rattle.book.specs.Claim.{Event, Past, log, Run, startingWith, step, run}
+use Rattle.book.specs.Claim.{Past, log, Run, startingWith, step, run}
 
 -- of what was read, the calls
 unfoldable pub callsOf : List (Option Call) → List Call

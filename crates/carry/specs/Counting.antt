@@ -1,7 +1,7 @@
 -- Counts of bytes at the start of a buffer: what lending that part asks, and what a read adds.
 use mathlib.Core.Path.{_≡_, _∙_, ap, sym}
 use mathlib.Core.List.{List}
-use Prim.Native.Nat.{ℕ, _+_, _-_, _≤_, min}
+use Prim.Native.Nat.{ℕ, _+_, _-_, _≤_}
 use native.Mathlib.Omega.{arith}
 use native.Mathlib.Nat.{le-trans, min-le-left}
 use lib.IntN.{ℤ, pos, negsuc}

@@ -1,7 +1,6 @@
 // Lists of calls in heap mode: the memory that was lent is checked once, then the calls are done and answered one after another.
 ghost use mathlib.Core.Path.{_≡_};
-ghost use mathlib.Core.List.{List};
-ghost use Prim.Native.Nat.{ℕ, _+_, _*_, _≤_};
+ghost use Prim.Native.Nat.{_+_, _*_, _≤_};
 ghost use lib.ListN.{length};
 ghost use Rattle.trail.specs.Memory.{trailOf};
 ghost use Rattle.vsids.specs.Vsids.{vsidsOf};

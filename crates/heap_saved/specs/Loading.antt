@@ -1,7 +1,7 @@
 -- Reading a saved session in heap mode: the rows from which trail and heap are restored, and what was read where they have no room. Assumes nothing.
-use Prim.Native.Nat.{ℕ, _*_, _<_, _≤_}
+use Prim.Native.Nat.{ℕ, _<_, _≤_}
 use mathlib.Core.Path.{_≡_, refl, sym, ap, subst, _∙_}
-use mathlib.Core.Bool.{Bool, true, false, _&&_, false≢true}
+use mathlib.Core.Bool.{Bool, true, false, false≢true}
 use mathlib.Core.Option.{Option, none, some}
 use mathlib.Core.List.{List, [], _∷_, _++_}
 use native.Mathlib.Omega.{arith}
@@ -39,7 +39,7 @@ use Rattle.saved_state.specs.OfTrail.{each-code, codes-back}
 use Rattle.saved_state.specs.OfHeap.{each-member, heap-back}
 use Rattle.saved_state.specs.Judged.{ClausesSaid}
 use Rattle.saved_state.specs.Sound.{stateTest}
-use Rattle.saved_state.specs.Judging.{clausesGood, fitting, LoadedIs, ends-length, clauses-judged, fronts-apart, front-all, front-part, front-one, front-two, codes-below, below-codes, Fitting, fitting-says}
+use Rattle.saved_state.specs.Judging.{clausesGood, fitting, LoadedIs, ends-length, clauses-judged, fronts-apart, front-all, front-part, front-one, front-two, codes-below, below-codes, fitting-says}
 use Rattle.heap_saved.specs.declared.loading.Loaded.{Loaded}
 use Rattle.heap_saved.specs.declared.loading.Loading as loading
 use Rattle.heap_saved.specs.declared.loading.Loading.the-variants as a-session

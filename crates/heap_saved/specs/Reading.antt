@@ -23,7 +23,7 @@ use Rattle.saved_text.specs.Reading.{readText}
 use Rattle.saved_text.specs.Form.{OpensWith, opened}
 use Rattle.saved_text.specs.FormLaws.{opens-said}
 use Rattle.saved_state.specs.Said.{litsSaid, endsSaid}
-use Rattle.saved_state.specs.Entry.{sameMode, Memory, memorySaid, read}
+use Rattle.saved_state.specs.Entry.{sameMode, Memory, read}
 use Rattle.saved_state.specs.Judging.{formOr, LoadedIs, ends-length}
 use Rattle.saved_state.specs.Answering.{read-refused, read-taken, read-own, read-none, read-other, read-form, read-many, read-unlike}
 use Rattle.heap_saved.specs.declared.loading.Loaded.{Loaded}

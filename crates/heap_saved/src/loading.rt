@@ -6,7 +6,6 @@ ghost use lib.ListN.{length, take};
 ghost use Rattle.lit.specs.Numbers.{NONE as none, maxVars};
 ghost use Rattle.trail.specs.Memory.{Lengths, trailOf};
 ghost use Rattle.vsids.specs.Vsids.{vsidsOf};
-ghost use Rattle.vsids.specs.Check.{SameLengths};
 ghost use Rattle.saved_text.specs.Saved.{Saved};
 ghost use Rattle.saved_text.specs.Reading.{readText};
 ghost use Rattle.saved_text.specs.Form.{OpensWith, opened as opening};

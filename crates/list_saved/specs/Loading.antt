@@ -1,7 +1,7 @@
 -- Reading a saved session in list mode: the rows from which trail and list are restored, and what was read where they have no room. Assumes nothing.
 use Prim.Native.Nat.{ℕ, _*_, _<_, _≤_}
 use mathlib.Core.Path.{_≡_, refl, sym, ap, subst, _∙_}
-use mathlib.Core.Bool.{Bool, true, false, _&&_, false≢true}
+use mathlib.Core.Bool.{Bool, true, false, false≢true}
 use mathlib.Core.Option.{Option, none, some}
 use mathlib.Core.List.{List, [], _∷_, _++_}
 use native.Mathlib.Omega.{arith}
@@ -36,7 +36,7 @@ use Rattle.saved_state.specs.Loops.{Codes}
 use Rattle.saved_state.specs.OfTrail.{each-code, codes-back}
 use Rattle.saved_state.specs.OfList.{each-var, list-back}
 use Rattle.saved_state.specs.Sound.{stateTest}
-use Rattle.saved_state.specs.Judging.{clausesGood, fitting, LoadedIs, ends-length, clauses-judged, fronts-apart, front-all, front-part, front-one, codes-below, below-codes, Fitting, fitting-says}
+use Rattle.saved_state.specs.Judging.{clausesGood, fitting, LoadedIs, ends-length, clauses-judged, fronts-apart, front-all, front-part, front-one, codes-below, below-codes, fitting-says}
 use Rattle.list_saved.specs.declared.loading.Loaded.{Loaded}
 use Rattle.list_saved.specs.declared.loading.Loading as loading
 use Rattle.list_saved.specs.declared.loading.Loading.the-variants as a-session

@@ -1,8 +1,6 @@
 // A line of a session in list mode that is a group: the group moves to the front of the list.
-ghost use mathlib.Core.Path.{_≡_};
 ghost use mathlib.Core.List.{List};
 ghost use Prim.Native.Nat.{ℕ};
-ghost use lib.ListN.{length};
 ghost use Rattle.vmtf.specs.Vmtf.{vmtfOf};
 ghost use Rattle.choosers.specs.List.{listOps};
 ghost use Rattle.session.specs.Entry.{Answered};

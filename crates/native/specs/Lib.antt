@@ -1,3 +1,2 @@
 -- The small states of a session as hosts lend them.
 pub mod Small
-pub mod Counts

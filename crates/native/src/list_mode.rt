@@ -1,5 +1,4 @@
 // The entries of a session in list mode that hosts in C and Rust link: slices go as pointer and length, the small states as numbers that are written back.
-ghost use mathlib.Core.Path.{_≡_};
 ghost use lib.ListN.{length};
 ghost use Rattle.lit.specs.Numbers as number;
 ghost use Rattle.session.specs.Entry.{Answered};

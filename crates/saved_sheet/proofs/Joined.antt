@@ -15,7 +15,7 @@ use Rattle.lit.specs.Numbers.{badLine}
 use Rattle.book.specs.Calls.{Call, Line}
 use Rattle.book.specs.Chooser.{Operations}
 use Rattle.book.specs.Session.{Result, done, refuse, status, reply, Session, call}
-use Rattle.book.specs.Claim.{Past, log, Run, startingWith, begin, step, run}
+use Rattle.book.specs.Claim.{Past, Run, startingWith, begin, step, run}
 use Rattle.book.specs.Read.{callsOf, logOne, logLines, logs}
 use Rattle.forms.specs.Text.{newline, occurs, splitFrom, split, butLast, lines}
 use Rattle.forms.specs.TextLaws.{split-length, lines-length}
@@ -23,7 +23,7 @@ use Rattle.forms.specs.Forms.{Opening, callIn, beginsClause, firstIn}
 use Rattle.forms.specs.Words.{never, same-some}
 use Rattle.saved_text.specs.Reading.{lastEmpty, closed}
 use Rattle.saved_text.specs.Read.{last-behind}
-use Rattle.sheet.specs.Sheet.{answerLine, logged, sessionAnswers, ClauseList, chooserOf, clauseLines, listed, clauseAnswers, behindFirst, opening, fromFirst, answered}
+use Rattle.sheet.specs.Sheet.{answerLine, logged, sessionAnswers, chooserOf, clauseLines, listed, clauseAnswers, behindFirst, opening, fromFirst, answered}
 use Rattle.sheet.specs.Running.{nextClause}
 use Rattle.saved_sheet.specs.Sheets.{Held, afterCalls, heldBehind, heldFirst, heldBy, answersHeld}
 

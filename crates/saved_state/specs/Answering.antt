@@ -7,19 +7,18 @@ use mathlib.Core.List.{List}
 use native.Mathlib.Omega.{arith}
 use lib.Dec.{leb}
 use borrow.Author.Tests.{le-leb, lt-leb}
-use lib.ListN.{length, take}
-use Rattle.laws.specs.Tests.{true-or-false}
+use lib.ListN.{length}
 use Rattle.lit.specs.Numbers.{NONE, maxVars, manyVars, badLength, badClauses, badState, badSaved}
 use Rattle.formula.specs.Clauses.{clausesOk}
 use Rattle.trail.specs.Trail.{Trail}
-use Rattle.book.specs.Session.{Result, done, refuse, need}
+use Rattle.book.specs.Session.{Result, done, need}
 use Rattle.session.specs.Entry.{sizesChecked, checked, Answered}
 use Rattle.session.specs.Mode.{trailLengths, clauseLengths}
 use Rattle.session.specs.Checks.{stateRefusal, refused, accepted}
 use Rattle.forms.specs.Forms.{Mode, vsids, vmtf}
 use Rattle.saved_text.specs.Saved.{Saved}
 use Rattle.saved_text.specs.Reading.{readText}
-use Rattle.saved_state.specs.Said.{litsSaid, endsSaid, row}
+use Rattle.saved_state.specs.Said.{litsSaid, endsSaid}
 use Rattle.saved_state.specs.Entry.{sameMode, saidIn, Reader, Memory, memorySaid, readInto, onSaid, read}
 use Rattle.saved_state.specs.Sound.{stateTest}
 use Rattle.saved_state.specs.Judging.{formOr, LoadedIs}

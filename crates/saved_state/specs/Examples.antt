@@ -1,8 +1,7 @@
 -- Two states of docs/SAVED.md and the numbers of their lines: what is written of the memory, and the memory that these say. Assumes nothing.
-use Prim.Native.Nat.{ℕ}
 use mathlib.Core.Path.{_≡_, refl}
-use mathlib.Core.List.{List, [], _∷_}
-use lib.Ieee.{Float, binary64, ofBits, toBits}
+use mathlib.Core.List.{[], _∷_}
+use lib.Ieee.{binary64, ofBits, toBits}
 use Rattle.lit.specs.Numbers.{NONE}
 use Rattle.laws.specs.InPlace.{upTo}
 use Rattle.formula.specs.Clauses.{clausesFrom}

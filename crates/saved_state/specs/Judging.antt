@@ -11,8 +11,8 @@ use lib.Dec.{leb, ltb, eqb}
 use lib.ListN.{length, getD, take, length-append}
 use lib.Seq.{take-all}
 use Rattle.laws.specs.Each.{Each}
-use Rattle.laws.specs.Every.{every, every-all}
-use Rattle.laws.specs.Tests.{and-left, and-right, and-both, true-or-false, same-test}
+use Rattle.laws.specs.Every.{every-all}
+use Rattle.laws.specs.Tests.{and-left, and-right, and-both, same-test}
 use Rattle.lit.specs.Numbers.{maxClauses, maxLiterals, badSaved}
 use Rattle.lit.specs.Lits.{index}
 use Rattle.formula.specs.Clauses.{start, noFallAt, endsOk, listOk, clausesOk}

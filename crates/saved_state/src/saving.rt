@@ -1,7 +1,6 @@
 // Writing the lines of a saved text that both modes share: the first line, the clauses and the trail. Each function writes, or only counts bytes.
 ghost use mathlib.Core.Path.{_≡_};
-ghost use mathlib.Core.List.{List};
-ghost use Prim.Native.Nat.{ℕ, _≤_};
+ghost use Prim.Native.Nat.{_≤_};
 ghost use lib.ListN.{length};
 ghost use Rattle.laws.specs.Each.{Each};
 ghost use Rattle.lit.specs.Numbers.{maxVars, maxClauses, maxLiterals};

@@ -41,7 +41,7 @@ use Rattle.saved_text.specs.Writing.{ended-append}
 use Rattle.saved_text.specs.Greatest.{greatest, higher, greatest-append}
 use Rattle.saved_text.specs.Cursor.{rowText, numbersOf, RowIs, RowRead}
 use Rattle.saved_text.specs.CursorLaws.{behind-it, place-within, next, first, row-long}
-use Rattle.saved_text.specs.Form.{rowsText, Stand, Front, Fronts, PastRows, HeadRead, trailRest, opened, behindTrail, stateForms, StateRead, clausesText, clausesOf, endsFrom, ClausesHeld, Clauseless, SectionRead, OpensWith, Told, countsWith, countsFrom, behindText, BehindRead, countsOf, formedOf, Placed}
+use Rattle.saved_text.specs.Form.{rowsText, Stand, Front, Fronts, PastRows, HeadRead, trailRest, opened, behindTrail, stateForms, StateRead, clausesText, clausesOf, endsFrom, ClausesHeld, Clauseless, SectionRead, OpensWith, Told, countsWith, countsFrom, behindText, BehindRead, formedOf, Placed}
 
 -- ---- rows behind rows
 

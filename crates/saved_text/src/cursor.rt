@@ -89,7 +89,7 @@ fn long_at(text: &[u8], at: usize, kind: Long) -> Field
 }
 
 // Stores a number at a place of out, if out has it.
-pub fn put_word(out: &mut [u32], at: usize, v: u32)
+pub fn keep_word(out: &mut [u32], at: usize, v: u32)
     ensures { λ _. ⌜ now (out .exit) ≡ set (now (out .entry)) at v ⌝ }
 {
     if at < out.len() {
@@ -97,7 +97,7 @@ pub fn put_word(out: &mut [u32], at: usize, v: u32)
     }
 }
 
-fn put_long(out: &mut [u64], at: usize, v: u64)
+fn keep_long(out: &mut [u64], at: usize, v: u64)
     ensures { λ _. ⌜ now (out .exit) ≡ set (now (out .entry)) at v ⌝ }
 {
     if at < out.len() {
@@ -120,7 +120,7 @@ pub fn read_words(text: &[u8], at: usize, letter: u8, kind: Word, out: &mut [u32
         let Field::Is(v, end) = word_at(text, i + 1, kind) else {
             return Row::Bad;
         };
-        put_word(out, n, v as u32);
+        keep_word(out, n, v as u32);
         if v > greatest {
             greatest = v;
         }
@@ -152,7 +152,7 @@ pub fn read_longs(text: &[u8], at: usize, letter: u8, kind: Long, out: &mut [u64
         let Field::Is(v, end) = long_at(text, i + 1, kind) else {
             return Row::Bad;
         };
-        put_long(out, n, v);
+        keep_long(out, n, v);
         if v > greatest {
             greatest = v;
         }

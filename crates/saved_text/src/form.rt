@@ -14,7 +14,7 @@ ghost use Rattle.saved_text.specs.Form.{PastRows, TrailRead, HeapRead, L
 use crate::cursor::Long;
 use crate::cursor::Row;
 use crate::cursor::Word;
-use crate::cursor::put_word;
+use crate::cursor::keep_word;
 use crate::cursor::read_longs;
 use crate::cursor::read_words;
 use forms::First;
@@ -389,7 +389,7 @@ fn put_end(ends: &mut [u32], at: usize, literals: usize, room: usize)
     ensures { λ _. ⌜ now (ends .exit) ≡ cond (leb literals room) (set (now (ends .entry)) at literals) (now (ends .entry)) ⌝ }
 {
     if literals <= room {
-        put_word(ends, at, literals as u32);
+        keep_word(ends, at, literals as u32);
     }
 }
 

@@ -1,7 +1,7 @@
 // Writing the lines of a saved text: fields and rows, written or only counted.
 ghost use mathlib.Core.Path.{_≡_};
 ghost use mathlib.Core.Bool.{true};
-ghost use mathlib.Core.List.{[], _∷_, _++_};
+ghost use mathlib.Core.List.{_++_};
 ghost use Prim.Native.Nat.{ℕ, _+_, _<_, _≤_};
 ghost use lib.ListN.{length, getD};
 ghost use Rattle.laws.specs.Each.{Each};
@@ -202,7 +202,7 @@ pub fn put_longs(
 }
 
 // Writes bytes from a place on, and gives the place behind them.
-fn put_word(out: &mut [u8], at: usize, word: &[u8]) -> usize
+fn put_bytes(out: &mut [u8], at: usize, word: &[u8]) -> usize
     requires { ⌜ at + length (now word) ≤ length (now out) ⌝ }
     ensures { λ r. ⌜ Wrote at (now (word .entry)) (now (out .entry)) (now (out .exit)) r ⌝ }
 {
@@ -226,7 +226,7 @@ pub fn put_first(out: &mut [u8], at: usize, n: u32, word: &[u8], write: bool) ->
     out[at + 1] = TAB;
     let mut end = put_number(out, at + 2, n as u64);
     out[end] = TAB;
-    end = put_word(out, end + 1, word);
+    end = put_bytes(out, end + 1, word);
     out[end] = NEWLINE;
     end + 1
 }

@@ -17,14 +17,14 @@ use Rattle.book.specs.Session.{Result, done, refuse, status, leaves, mapped, Se
 use Rattle.book.specs.Claim.{recordsOf, Run, startingWith, begin, extended, step, run, Claim}
 use Rattle.book.proofs.Books.{length-values}
 use Rattle.book.specs.Saved.{readBack}
-use Rattle.book.specs.Read.{behind, run-past}
+use Rattle.book.specs.Read.{run-past}
 use Rattle.book.proofs.Term3.{Inv, began, stepped, turned-down, ran}
 use Rattle.book.proofs.OtherList.{overRun, claim-over, over-list}
 use Rattle.book.proofs.Saved.{read-back}
 use Rattle.session.specs.Asked.{Asked, asked, Lending}
 use Rattle.session.specs.Mode.{Mode, entered, enteredList, made}
 use Rattle.session.specs.Checks as check
-use Rattle.session.specs.Entered.{Sound, RightScratch, Founded, GoodMemory, passed-good, good-passed, made-sizes, made-fresh, unchecked, bad-refused}
+use Rattle.session.specs.Entered.{Sound, RightScratch, Founded, GoodMemory, passed-good, made-sizes, made-fresh, unchecked, bad-refused}
 
 -- the clause list that is lent is good, as its counts say
 abbrev pub FoundedBy : Lending → Type 0

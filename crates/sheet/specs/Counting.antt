@@ -2,14 +2,14 @@
 use Prim.Native.Nat.{ℕ, _+_}
 use mathlib.Core.Path.{_≡_, refl, sym, ap, _∙_}
 use mathlib.Core.Bool.{true, false}
-use mathlib.Core.List.{List, [], _∷_}
+use mathlib.Core.List.{List, []}
 use native.Mathlib.Omega.{arith}
 use lib.ListN.{length, take}
 use lib.Seq.{length-take-le}
 use Rattle.book.specs.Session.{leaves}
 use Rattle.book.specs.Mapped.{mapped-leaves}
 use Rattle.forms.specs.Text.{written}
-use Rattle.forms.specs.Forms.{Mode, vsids, beginsClause, codesIn}
+use Rattle.forms.specs.Forms.{Mode, vsids, codesIn}
 use Rattle.sheet.specs.declared.clauses.Added.{Added}
 use Rattle.sheet.specs.declared.clauses.Section.{Section}
 use Rattle.sheet.specs.Sheet.{ClauseList, added, clauseLines, listed}

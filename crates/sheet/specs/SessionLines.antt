@@ -1,14 +1,12 @@
 -- The lines of a session, in any mode: what an answered line does to the buffer and the place. Assumes nothing.
 use Prim.Native.Nat.{ℕ, _+_, _≤_, _<_}
 use mathlib.Core.Path.{_≡_, refl, sym, ap, subst, _∙_}
-use mathlib.Core.Option.{Option, none, some}
 use mathlib.Core.List.{List}
 use native.Mathlib.Omega.{arith}
 use lib.ListN.{length}
 use Rattle.lit.specs.Numbers.{answerRoom}
-use Rattle.book.specs.Calls.{Call}
 use Rattle.book.specs.Chooser.{Operations}
-use Rattle.book.specs.Session.{Result, status, reply, leaves, mapped, Session, call}
+use Rattle.book.specs.Session.{Result, status, reply, leaves, mapped, Session}
 use Rattle.book.specs.Read.{called}
 use Rattle.book.specs.Mapped.{mapped-status, mapped-reply, mapped-leaves}
 use Rattle.session.specs.Entry.{Answered}

@@ -4,7 +4,7 @@ use Prim.Native.Nat.{ℕ, suc, _+_}
 use mathlib.Core.Path.{_≡_, refl, sym, ap, _∙_}
 use mathlib.Core.Bool.{false}
 use mathlib.Core.Option.{Option, none, some}
-use mathlib.Core.List.{List, [], _∷_, _++_, map, reverse, append-nil, append-assoc, reverse-cons}
+use mathlib.Core.List.{List, [], _∷_, _++_, map, append-assoc}
 use native.Mathlib.Omega.{arith}
 use lib.ListN.{length}
 use Rattle.lit.specs.Numbers.{badLine}
@@ -13,7 +13,7 @@ use Rattle.choosers.specs.Heap.{heapOps}
 use Rattle.choosers.specs.List.{listOps}
 use Rattle.book.specs.Calls.{Call, Line}
 use Rattle.book.specs.Chooser.{Operations}
-use Rattle.book.specs.Session.{Result, done, refuse, status, reply, leaves, logLine, Session, fresh, call}
+use Rattle.book.specs.Session.{Result, done, refuse, status, reply, leaves, Session, fresh, call}
 use Rattle.book.specs.Mapped.{mapped-status, mapped-reply, mapped-leaves}
 use Rattle.book.specs.Claim.{Run, startingWith, step}
 use Rattle.book.specs.Read.{called, logLines, logs}

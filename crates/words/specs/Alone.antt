@@ -1,16 +1,16 @@
 -- A list of calls is the same as each call in a list of its own, checked every time, and that is the call on its entry point; what an accepted list
 -- leaves is good. In either mode, by what it owes.
 use Prim.Native.Nat.{ℕ}
-use mathlib.Core.Path.{_≡_, refl, sym, ap, subst, _∙_}
+use mathlib.Core.Path.{_≡_, refl, sym, ap, _∙_}
 use mathlib.Core.Logic.{_≢_}
 use mathlib.Core.Bool.{Bool, true, false}
 use mathlib.Core.Option.{Option, none, some}
-use mathlib.Core.List.{List, [], _∷_, _++_}
+use mathlib.Core.List.{List, [], _∷_}
 use lib.ListN.{length}
 use lib.Dec.{leb}
 use Rattle.lit.specs.Numbers.{maxVars, manyVars, badLength, badClauses, badState}
 use Rattle.book.specs.Calls.{Call}
-use Rattle.book.specs.Session.{Result, done, refuse, status, reply, leaves, need, Session, call}
+use Rattle.book.specs.Session.{Result, done, refuse, status, reply, leaves, need, Session}
 use Rattle.book.specs.Mapped.{mapped-status}
 use Rattle.book.specs.Claim.{startingWith, run}
 use Rattle.book.specs.Read.{callsOf, called, called-kept}

@@ -11,7 +11,7 @@ use lib.Arith.{digits-div}
 use lib.ListN.{length}
 use Rattle.lit.specs.Numbers.{NONE}
 use Rattle.formula.specs.Clauses.{clausesOk}
-use Rattle.book.specs.Session.{Result, done, refuse, status, leaves, mapped, Session}
+use Rattle.book.specs.Session.{Result, done, refuse, status, mapped, Session}
 use Rattle.book.specs.Claim.{startingWith, run}
 use Rattle.book.specs.Read.{callsOf}
 use Rattle.session.specs.Entry.{Answered}

@@ -6,7 +6,7 @@ use mathlib.Core.List.{List, [], _∷_, _++_, append-nil, append-assoc}
 use native.Mathlib.Omega.{arith}
 use lib.ListN.{length, getD, set, take, length-set}
 use lib.Seq.{take-all, take-suc-set, append-snoc}
-use Rattle.book.specs.Calls.{Call, Line}
+use Rattle.book.specs.Calls.{Call}
 use Rattle.book.specs.Chooser.{Operations}
 use Rattle.book.specs.Session.{status, reply, leaves, Session}
 use Rattle.book.specs.Claim.{Run, startingWith, step, run}

@@ -1,6 +1,6 @@
 -- `heap_calls::run_calls` meets its contract: each call that is done leaves the run's end where it was.
 use Prim.Native.Nat.{_-_}
-use mathlib.Core.Path.{_≡_, sym, _∙_}
+use mathlib.Core.Path.{sym, _∙_}
 use native.Mathlib.Omega.{arith}
 use Rattle.choosers.specs.Heap.{heapOps}
 use Rattle.heap_session.specs.Memory.{sessionOf}

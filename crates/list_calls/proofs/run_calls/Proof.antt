@@ -1,11 +1,10 @@
 -- `list_calls::run_calls` meets its contract: each call that is done leaves the run's end where it was.
 use Prim.Native.Nat.{ℕ, _-_}
-use mathlib.Core.Path.{_≡_, sym, _∙_}
+use mathlib.Core.Path.{sym, _∙_}
 use mathlib.Core.List.{List, []}
 use native.Mathlib.Omega.{arith}
 use Rattle.choosers.specs.List.{listOps}
 use Rattle.list_session.specs.Memory.{sessionOf}
-use Rattle.list_session.specs.Good.{GoodSession}
 use Rattle.list_session.specs.Kept.{IsGood}
 use Rattle.words.specs.Going.{Part, part-none, part-over}
 use Rattle.list_calls.specs.Lists.{list-more}

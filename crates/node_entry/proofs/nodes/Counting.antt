@@ -19,7 +19,7 @@ use base.Logic.{SProp, ent}
 use base.Fml.{fat, froom}
 use prog.Wp.{Heap, Out, next, exits, Env, spotOf, Calls, Loops, afterTurn, Tables}
 use ghost.Atoms.{Atoms}
-use types.Kit.{Given, Item, Post, post, Seq, Step, step, runs, prop, anyQ, ⋆, ‵, _$_, rewrite, by}
+use types.Kit.{Given, Item, Post, post, Seq, Step, step, runs, prop, anyQ, ⋆, ‵, _$_, rewrite}
 use types.Part.{whole, sub, look-in}
 use types.Run.{Below, look, init, store, stop, fld, load, lit, of-opd, bin, assigns, assigns-last, stays, leaves-loop, again, loops}
 use denote.Slice.{sliceTy, sliceVal}

@@ -1,7 +1,6 @@
 -- `words::read_letter` meets its contract: the letters that take two words first, then those that take one or none.
-use mathlib.Core.Path.{refl, sym, _∙_}
+use mathlib.Core.Path.{sym, _∙_}
 use lib.Dec.{leb}
-use borrow.Author.Needs.{needs}
 use borrow.Author.Tests.{eq-eqb, ne-eqb, leb-true}
 use Rattle.laws.specs.Tests.{and-left, and-right}
 use Rattle.lit.specs.Numbers.{maxGroup}

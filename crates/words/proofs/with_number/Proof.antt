@@ -1,5 +1,4 @@
 -- `words::with_number` meets its contract: each letter is its call's, and the others have no such call.
-use Prim.Native.Nat.{ℕ}
 use mathlib.Core.Path.{_≡_, refl}
 use mathlib.Core.Option.{none}
 use Rattle.forms.specs.Forms.{Kind, kindOf}

@@ -1,6 +1,6 @@
 -- `forms::text::digit_count` meets its contract: what is left has as many digits less as were counted.
-use Prim.Native.Nat.{ℕ, _+_, _/_, _≤_, _^_}
-use mathlib.Core.Path.{_≡_, sym, ap}
+use Prim.Native.Nat.{ℕ, _+_, _/_, _≤_}
+use mathlib.Core.Path.{_≡_, ap}
 use native.Mathlib.Omega.{arith}
 use lib.ListN.{length}
 use Rattle.forms.specs.TextLaws.{decimals, decimals-one, decimals-length, decimals-count, digits-room}

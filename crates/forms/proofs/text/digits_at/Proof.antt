@@ -6,7 +6,7 @@ use native.Mathlib.Omega.{arith}
 use borrow.Author.Needs.{needs}
 use borrow.Author.Tests.{ltb-true, ltb-false}
 use lib.ListN.{length, drop, getD}
-use Rattle.forms.specs.Reading.{digitValue, digitRun}
+use Rattle.forms.specs.Reading.{digitRun}
 use Rattle.forms.proofs.Digits.{Left, begun, more, nothing, leading, too-great, the-number, no-digit, a-digit, no-byte, below-ten, not-zero, is-zero}
 use Rattle.forms.proofs.text.digits_at.Statement.{statement}
 use Rattle.forms.proofs.text.digits_at.Tie as tie

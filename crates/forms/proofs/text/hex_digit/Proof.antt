@@ -1,10 +1,10 @@
 -- `forms::text::hex_digit` meets its contract: one difference is small at a digit, the other at a letter.
-use Prim.Native.Nat.{ℕ, _≤_, _<_, _+_, _%_}
+use Prim.Native.Nat.{_+_}
 use mathlib.Core.Path.{_≡_, sym, _∙_}
 use mathlib.Core.Logic.{⊎-elim}
 use native.Mathlib.Omega.{arith}
 use borrow.Author.Needs.{needs}
-use Rattle.forms.specs.Letters.{digitZero, digitNine, digitA, digitF}
+use Rattle.forms.specs.Letters.{digitZero, digitA}
 use Rattle.forms.specs.Reading.{hex-low, hex-high, hex-none}
 use Rattle.forms.proofs.text.hex_digit.Statement.{statement}
 use Rattle.forms.proofs.text.hex_digit.Tie as tie

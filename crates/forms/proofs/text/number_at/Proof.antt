@@ -1,12 +1,12 @@
 -- `forms::text::number_at` meets its contract: digits up to a tab or the end are the field, and a field with another byte in it is no number.
-use Prim.Native.Nat.{ℕ, _+_, _≤_}
+use Prim.Native.Nat.{ℕ, _+_}
 use mathlib.Core.Path.{_≡_, _∙_, sym, ap}
 use mathlib.Core.Option.{some}
 use mathlib.Core.Logic.{⊎-elim}
 use native.Mathlib.Omega.{arith}
 use borrow.Author.Needs.{needs}
 use borrow.Author.Tests.{eqb-true, eqb-false, not-true, not-false}
-use lib.ListN.{length, drop, getD, length-drop}
+use lib.ListN.{drop, getD, length-drop}
 use lib.Seq.{getD-drop}
 use Rattle.forms.specs.Text.{tab, numberUpTo}
 use Rattle.forms.specs.Reading.{digitRun, run, field-run, field-other, field-none}

@@ -7,7 +7,7 @@ use borrow.Author.Needs.{needs}
 use lib.ListN.{length}
 use Rattle.forms.specs.Letters.{digitZero}
 use Rattle.forms.specs.TextLaws.{decimals, decimals-one, decimals-step}
-use Rattle.forms.specs.Written.{Wrote, put-more, same-room}
+use Rattle.forms.specs.Written.{put-more, same-room}
 use Rattle.forms.proofs.text.put_number.Statement.{statement}
 use Rattle.forms.proofs.text.put_number.Tie as tie
 

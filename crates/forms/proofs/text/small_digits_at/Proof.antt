@@ -1,5 +1,5 @@
 -- `forms::text::small_digits_at` meets its contract: what is left of the digits still decides, and a number of 32 bits has room for a digit more.
-use Prim.Native.Nat.{ℕ, _≤_, _<_, _+_, _*_, _-_, _/_}
+use Prim.Native.Nat.{_≤_, _<_, _+_, _*_, _-_}
 use mathlib.Core.Path.{_≡_, refl, _∙_, sym}
 use mathlib.Core.Logic.{⊎-elim}
 use native.Mathlib.Omega.{arith}
@@ -7,7 +7,7 @@ use borrow.Author.Needs.{needs}
 use borrow.Author.Tests.{ltb-true, ltb-false}
 use lib.ListN.{length, drop, getD}
 use Rattle.lit.specs.Numbers.{NONE}
-use Rattle.forms.specs.Reading.{digitValue, digitRun}
+use Rattle.forms.specs.Reading.{digitRun}
 use Rattle.forms.proofs.Digits.{Left, begun, more, nothing, leading, too-great, the-number, no-digit, a-digit, no-byte, below-ten, not-zero, is-zero}
 use Rattle.forms.proofs.text.small_digits_at.Statement.{statement}
 use Rattle.forms.proofs.text.small_digits_at.Tie as tie

@@ -1,9 +1,9 @@
 -- `saved_state::memory::set_list` meets its contract: links, stamps and the front are what their functions give, over one length.
 use Prim.Native.Nat.{ℕ}
-use mathlib.Core.Path.{_≡_, ap, _∙_}
+use mathlib.Core.Path.{ap, _∙_}
 use native.Mathlib.Omega.{arith}
 use borrow.Author.Needs.{needs}
-use lib.ListN.{length, replicate}
+use lib.ListN.{replicate}
 use Rattle.saved_state.specs.Said.{stores}
 use Rattle.saved_state.proofs.memory.set_list.Statement.{statement}
 use Rattle.saved_state.proofs.memory.set_list.Tie as tie

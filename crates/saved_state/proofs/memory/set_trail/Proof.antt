@@ -1,15 +1,14 @@
 -- `saved_state::memory::set_trail` meets its contract: each list is what its loop gives, over one length.
 use Prim.Native.Nat.{ℕ}
-use mathlib.Core.Path.{_≡_, sym, ap, _∙_}
+use mathlib.Core.Path.{sym, ap, _∙_}
 use mathlib.Core.List.{map}
 use native.Mathlib.Omega.{arith}
 use borrow.Author.Needs.{needs}
-use lib.ListN.{length, take, replicate}
+use lib.ListN.{take, replicate}
 use lib.Seq.{length-take-le}
 use Rattle.lit.specs.Numbers.{NONE}
 use Rattle.lit.specs.Lits.{index}
 use Rattle.saved_state.specs.Said.{padded, stores, openings}
-use Rattle.saved_state.specs.Loops.{Codes}
 use Rattle.saved_state.proofs.memory.set_trail.Statement.{statement}
 use Rattle.saved_state.proofs.memory.set_trail.Tie as tie
 use Rattle.saved_state.proofs.memory.set_trail.Lts as lts

@@ -39,7 +39,7 @@ loop-again : tie.Need-loop-again Inv-loop μ-loop
 loop-again c =
     let l = c .before .before .before .before .before .before .before .before .before .before .before .before .loop in
     let v = c .before .before .before .before .before .before .v .given in
-    let p = c .before .before .before .put-long in
+    let p = c .before .before .before .keep-long in
     let top : c .if4 .greatest ≡ higher (l .greatest) (v .0 .0) = ⊎-elim (λ w. higher-new _ _ (w .0 .taken) (w .1)) (λ w. higher-old _ _ (w .0 .left) (w .1)) (c .if4 .came) in (
       p .kept .0 ∙ l .inv .0,
       rw (p .ensures, top) (so-far-next _ _ _ _ _ _ _ _ (l .inv .1) (c .before .before .before .before .before .before .before .before .before .before .before .loop-test .taken) (eqb-true _ _ (c .before .before .before .before .before .before .before .before .before .if3 .taken)) _ _ (rw (v .1) at (c .before .before .before .before .before .before .before .before .long-at .ensures))),

@@ -29,8 +29,8 @@ returns-2 c =
     let f = c .before .before .before in
     row-unread _ _ _ _ _ _ _ _ (f .before .before .before .loop .inv .1) (f .before .before .loop-test .taken) (eqb-true _ _ (f .if3 .taken)) (rw (c .enum-told .given .1) at (c .before .before .word-at .ensures .0))
 
-cast-put-word : tie.Need-cast-put-word Inv-loop μ-loop
-cast-put-word c = omega (arith, c .before .before .before .before .word-at .ensures .1 _ _ (c .before .before .v .given .1))
+cast-keep-word : tie.Need-cast-keep-word Inv-loop μ-loop
+cast-keep-word c = omega (arith, c .before .before .before .before .word-at .ensures .1 _ _ (c .before .before .v .given .1))
 
 add-n : tie.Need-add-n Inv-loop μ-loop
 add-n c = let l = c .before .before .before .before .before .before .before .before .before .before .before .before in omega (arith, l .loop .inv .1 .few, l .loop .inv .1 .within, l .before .before .before .before .before .before .good)
@@ -42,7 +42,7 @@ loop-again : tie.Need-loop-again Inv-loop μ-loop
 loop-again c =
     let l = c .before .before .before .before .before .before .before .before .before .before .before .before .loop in
     let v = c .before .before .before .before .before .before .v .given in
-    let p = c .before .before .before .put-word in
+    let p = c .before .before .before .keep-word in
     let top : c .if4 .greatest ≡ higher (l .greatest) (v .0 .0) = ⊎-elim (λ w. higher-new _ _ (w .0 .taken) (w .1)) (λ w. higher-old _ _ (w .0 .left) (w .1)) (c .if4 .came) in (
       p .kept .0 ∙ l .inv .0,
       rw (p .ensures, top) (so-far-next _ _ _ _ _ _ _ _ (l .inv .1) (c .before .before .before .before .before .before .before .before .before .before .before .loop-test .taken) (eqb-true _ _ (c .before .before .before .before .before .before .before .before .before .if3 .taken)) _ _ (rw (v .1) at (c .before .before .before .before .before .before .before .before .word-at .ensures .0))),
@@ -74,7 +74,7 @@ read-words-spec =
     (λ c. search needs)
     (λ c. search needs)
     returns-2
-    cast-put-word
+    cast-keep-word
     (λ c κs. search needs)
     add-n
     loop-less

@@ -1,7 +1,7 @@
 -- `saved_text::form::heap_rows` meets its contract: the line of the members, and those behind it.
 use Rattle.saved_text.specs.FormLaws.{head-bad, head-stopped, head-read, two}
 use borrow.Author.Needs.{needs}
-use mathlib.Core.Path.{refl, sym}
+use mathlib.Core.Path.{refl}
 use Rattle.saved_text.proofs.form.heap_rows.Statement.{statement}
 use Rattle.saved_text.proofs.form.heap_rows.Tie as tie
 

@@ -1,7 +1,7 @@
 -- `saved_text::form::list_rows` meets its contract: the line of the order, and those behind it.
 use Rattle.saved_text.specs.FormLaws.{head-bad, head-miscounted, head-stopped, head-read, alone}
 use borrow.Author.Needs.{needs}
-use mathlib.Core.Path.{refl, sym}
+use mathlib.Core.Path.{sym}
 use Rattle.saved_text.proofs.form.list_rows.Statement.{statement}
 use Rattle.saved_text.proofs.form.list_rows.Tie as tie
 

@@ -1,12 +1,11 @@
 -- `saved_text::form::put_end` meets its contract: by its test.
 use borrow.Author.Needs.{needs}
 use borrow.Author.Tests.{le-leb, lt-leb}
-use mathlib.Core.Path.{_∙_}
 use Rattle.saved_text.proofs.form.put_end.Statement.{statement}
 use Rattle.saved_text.proofs.form.put_end.Tie as tie
 
 returns : tie.Need-returns
-returns c = rw (le-leb _ _ (c .before .before .before .before .if1 .taken)) (c .before .before .put-word .ensures)
+returns c = rw (le-leb _ _ (c .before .before .before .before .if1 .taken)) (c .before .before .keep-word .ensures)
 
 returns-2 : tie.Need-returns-2
 returns-2 c = rw (lt-leb _ _ (c .if1 .left))

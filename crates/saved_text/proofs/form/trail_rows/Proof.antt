@@ -1,7 +1,7 @@
 -- `saved_text::form::trail_rows` meets its contract: the line of the codes says how many levels and reasons there are.
 use Rattle.saved_text.specs.FormLaws.{head-bad, head-stopped, head-read, alone}
 use borrow.Author.Needs.{needs}
-use mathlib.Core.Path.{refl, sym}
+use mathlib.Core.Path.{refl}
 use Rattle.saved_text.proofs.form.trail_rows.Statement.{statement}
 use Rattle.saved_text.proofs.form.trail_rows.Tie as tie
 

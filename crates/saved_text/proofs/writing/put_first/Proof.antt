@@ -35,11 +35,11 @@ unfolding written
 numbered c = put-more {a = firstLetter ∷ tab ∷ []} (record { buffer = refl; place = refl }) (c .put-number .ensures)
 
 -- and once the word is
-worded : (c : tie.After-put-word) → let a = c .before .before .before .before .before .before .before .before .before .args in
-    Wrote (a .at) ((((firstLetter ∷ tab ∷ []) ++ digitsBy 20 (a .n)) ++ (tab ∷ [])) ++ a .word .now) (a .out .now) (c .put-word .last .0) (c .put-word .result)
-worded c = put-more (put-one tab (numbered (c .before .before .before .before))) (c .put-word .ensures)
+worded : (c : tie.After-put-bytes) → let a = c .before .before .before .before .before .before .before .before .before .args in
+    Wrote (a .at) ((((firstLetter ∷ tab ∷ []) ++ digitsBy 20 (a .n)) ++ (tab ∷ [])) ++ a .word .now) (a .out .now) (c .put-bytes .last .0) (c .put-bytes .result)
+worded c = put-more (put-one tab (numbered (c .before .before .before .before))) (c .put-bytes .ensures)
 
-ended : (c : tie.After-put-word) → let a = c .before .before .before .before .before .before .before .before .before .args in c .put-word .result + 1 ≤ length (a .out .now)
+ended : (c : tie.After-put-bytes) → let a = c .before .before .before .before .before .before .before .before .before .args in c .put-bytes .result + 1 ≤ length (a .out .now)
 ended c =
     let n = c .before .before .before .before in
     let a = n .before .before .before .before .before .args in
@@ -70,14 +70,14 @@ slice-write-out-3 c =
     let a = n .before .before .before .before .before .args in
     omega (arith, numbered n .place, same-room (numbered n), room (n .before .before), length-append (firstLetter ∷ tab ∷ []) (digitsBy 20 (a .n)))
 
-add-put-word : tie.Need-add-put-word
-add-put-word c =
+add-put-bytes : tie.Need-add-put-bytes
+add-put-bytes c =
     let n = c .before .before .before in
     let s = n .before .before .before .before .before in
     omega (arith, numbered n .place, room (n .before .before), length-append (firstLetter ∷ tab ∷ []) (digitsBy 20 (s .args .n)), s .good)
 
-put-word-requires : tie.Need-put-word-requires
-put-word-requires c κs =
+put-bytes-requires : tie.Need-put-bytes-requires
+put-bytes-requires c κs =
     let n = c .before .before .before in
     let a = n .before .before .before .before .before .args in
     omega (arith, numbered n .place, same-room (numbered n), room (n .before .before), length-append (firstLetter ∷ tab ∷ []) (digitsBy 20 (a .n)), length-set (n .put-number .last .0) (n .put-number .result) tab)
@@ -89,7 +89,7 @@ add-result-4 : tie.Need-add-result-4
 add-result-4 c = omega (arith, ended (c .before .before), c .before .before .before .before .before .before .before .before .before .before .before .good)
 
 same-length : tie.Need-same-length
-same-length c = let w = c .before .before .put-word in length-set (w .last .0) (w .result) newline ∙ same-room (worded (c .before .before))
+same-length c = let w = c .before .before .put-bytes in length-set (w .last .0) (w .result) newline ∙ same-room (worded (c .before .before))
 
 returns-2 : tie.Need-returns-2
 returns-2 c =
@@ -114,8 +114,8 @@ put-first-spec =
     (λ c. search needs)
     put-number-requires
     slice-write-out-3
-    add-put-word
-    put-word-requires
+    add-put-bytes
+    put-bytes-requires
     slice-write-out-4
     add-result-4
     same-length

@@ -1,7 +1,6 @@
 // The entry that tells mode and counts of a saved text, so that a host can set up memory for it.
-ghost use mathlib.Core.Path.{_≡_};
 ghost use Rattle.saved_text.specs.Reading.{readText};
-ghost use Rattle.native.specs.Counts.{CountsTold};
+ghost use Rattle.saved_native.specs.Counts.{CountsTold};
 use lit::BAD_SAVED;
 use saved_text::form::Formed;
 use saved_text::form::read_form;

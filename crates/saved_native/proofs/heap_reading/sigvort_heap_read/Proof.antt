@@ -1,8 +1,9 @@
 -- `native::heap_reading::sigvort_heap_read` meets its contract: what reading answers, with the small states as numbers.
-use Rattle.native.specs.Small.{heapState, heap-refused, heap-taken}
+use Rattle.native.specs.Small.{heapState}
+use Rattle.saved_native.specs.Told.{heap-refused, heap-taken}
 use borrow.Author.Needs.{needs}
-use Rattle.native.proofs.heap_reading.sigvort_heap_read.Statement.{statement}
-use Rattle.native.proofs.heap_reading.sigvort_heap_read.Tie as tie
+use Rattle.saved_native.proofs.heap_reading.sigvort_heap_read.Statement.{statement}
+use Rattle.saved_native.proofs.heap_reading.sigvort_heap_read.Tie as tie
 
 returns : tie.Need-returns
 returns c = let a = c .before .before .before .before .before .before .before .before .before .before .before .before .before .before .before .before .before .before .before .before .before .before .before .before .before .before .before .before .before .before .before .before .before .before .before .before .before .before .before .before .before .before .before .before .before .before .before .before .args in heap-refused (a .text .now) (heapState (a .len .now) (a .level .now) (a .curr-i .now) (a .members .now) (a .inc .now) (a .decay .now)) (c .before .before .before .before .before .before .before .before .before .before .before .before .before .before .before .before .before .before .before .before .before .before .before .before .read .ensures) (c .if1 .taken)

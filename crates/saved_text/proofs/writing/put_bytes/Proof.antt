@@ -1,4 +1,4 @@
--- `saved_text::writing::put_word` meets its contract: what was written is the bytes passed.
+-- `saved_text::writing::put_bytes` meets its contract: what was written is the bytes passed.
 use Prim.Native.Nat.{_+_, _-_, _≤_}
 use mathlib.Core.Path.{_≡_, refl}
 use native.Mathlib.Omega.{arith}
@@ -7,8 +7,8 @@ use lib.ListN.{length, take, getD}
 use lib.Seq.{take-all, take-suc}
 use Rattle.forms.specs.Text.{written}
 use Rattle.forms.specs.Written.{Wrote, put-one, same-room}
-use Rattle.saved_text.proofs.writing.put_word.Statement.{statement}
-use Rattle.saved_text.proofs.writing.put_word.Tie as tie
+use Rattle.saved_text.proofs.writing.put_bytes.Statement.{statement}
+use Rattle.saved_text.proofs.writing.put_bytes.Tie as tie
 
 abbrev Inv-loop : tie.InvT-loop
 Inv-loop out₀ at word i₀ out i = (i ≤ length word) × Wrote at (take i word) out₀ out (at + i)
@@ -52,5 +52,5 @@ same-length c = same-room (c .before .loop .inv .1)
 returns : tie.Need-returns Inv-loop μ-loop
 returns c = let l = c .before .loop in let w = c .before .before .args .word .now in rw (← take-all (l .i) w (omega arith)) (l .inv .1)
 
-pub put-word-spec : {M : Type 1} → statement M
-put-word-spec = tie.close (tie.spec Inv-loop μ-loop loop-holds shared-slice-read-out add-out slice-write-out add-i loop-less loop-again add-result same-length returns)
+pub put-bytes-spec : {M : Type 1} → statement M
+put-bytes-spec = tie.close (tie.spec Inv-loop μ-loop loop-holds shared-slice-read-out add-out slice-write-out add-i loop-less loop-again add-result same-length returns)

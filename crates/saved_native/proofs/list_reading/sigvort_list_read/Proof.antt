@@ -1,8 +1,9 @@
 -- `native::list_reading::sigvort_list_read` meets its contract: what reading answers, with the small states as numbers.
-use Rattle.native.specs.Small.{listState, list-refused, list-taken}
+use Rattle.native.specs.Small.{listState}
+use Rattle.saved_native.specs.Told.{list-refused, list-taken}
 use borrow.Author.Needs.{needs}
-use Rattle.native.proofs.list_reading.sigvort_list_read.Statement.{statement}
-use Rattle.native.proofs.list_reading.sigvort_list_read.Tie as tie
+use Rattle.saved_native.proofs.list_reading.sigvort_list_read.Statement.{statement}
+use Rattle.saved_native.proofs.list_reading.sigvort_list_read.Tie as tie
 
 returns : tie.Need-returns
 returns c = let a = c .before .before .before .before .before .before .before .before .before .before .before .before .before .before .before .before .before .before .before .before .before .before .before .before .before .before .before .before .before .before .before .before .before .before .before .before .before .before .before .before .before .before .before .before .args in list-refused (a .text .now) (listState (a .len .now) (a .level .now) (a .curr-i .now) (a .start .now) (a .search .now) (a .timestamp .now)) (c .before .before .before .before .before .before .before .before .before .before .before .before .before .before .before .before .before .before .before .before .before .before .read .ensures) (c .if1 .taken)

@@ -1,10 +1,9 @@
 // The entry that reads a saved session in list mode, for hosts in C and Rust.
-ghost use mathlib.Core.Path.{_≡_};
 ghost use Rattle.lit.specs.Numbers as number;
 ghost use Rattle.session.specs.Entry.{Answered};
 ghost use Rattle.saved_state.specs.Entry as entry;
 ghost use Rattle.list_saved.specs.Reader.{listReader, memoryOf};
 ghost use Rattle.native.specs.Small.{listState};
 
 // Reads a saved text of list mode into memory that a host lends, with the clause list. Refused, nothing changes.
 #[no_mangle]

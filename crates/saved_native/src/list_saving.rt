@@ -1,10 +1,10 @@
 // The entry of a saved session in list mode that hosts in C and Rust link.
-ghost use mathlib.Core.Path.{_≡_};
 ghost use Rattle.list_session.specs.Memory.{sessionOf};
 ghost use Rattle.list_entry.specs.Entry.{listMode};
 ghost use Rattle.saved_state.specs.Written.{savedList};
 ghost use Rattle.saved_state.specs.Entry.{wrote};
-ghost use Rattle.native.specs.Small.{listState, Told};
+ghost use Rattle.native.specs.Small.{listState};
+ghost use Rattle.saved_native.specs.Told.{Told};
 use list_session::ListState;
 use trail::TrailState;
 use vmtf::VmtfState;

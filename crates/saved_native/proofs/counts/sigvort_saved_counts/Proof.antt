@@ -1,9 +1,9 @@
 -- `native::counts::sigvort_saved_counts` meets its contract: the counts of what the text says, or 15.
 use borrow.Author.Needs.{needs}
-use Rattle.native.proofs.counts.sigvort_saved_counts.Statement.{statement}
-use Rattle.native.proofs.counts.sigvort_saved_counts.Tie as tie
+use Rattle.saved_native.proofs.counts.sigvort_saved_counts.Statement.{statement}
+use Rattle.saved_native.proofs.counts.sigvort_saved_counts.Tie as tie
 use Rattle.saved_text.specs.Reading.{readText}
-use Rattle.native.specs.Counts.{counts-none, counts-some}
+use Rattle.saved_native.specs.Counts.{counts-none, counts-some}
 
 enum-told : tie.Need-enum-told
 enum-told c = search needs

@@ -1,10 +1,10 @@
 // The entry of a saved session in heap mode that hosts in C and Rust link.
-ghost use mathlib.Core.Path.{_≡_};
 ghost use Rattle.heap_session.specs.Memory.{sessionOf};
 ghost use Rattle.heap_entry.specs.Entry.{heapMode};
 ghost use Rattle.saved_state.specs.Written.{savedHeap};
 ghost use Rattle.saved_state.specs.Entry.{wrote};
-ghost use Rattle.native.specs.Small.{heapState, Told};
+ghost use Rattle.native.specs.Small.{heapState};
+ghost use Rattle.saved_native.specs.Told.{Told};
 use activity::Step;
 use heap_session::HeapState;
 use trail::TrailState;

@@ -1,0 +1,3 @@
+-- What hosts are told of saved sessions.
+pub mod Told
+pub mod Counts
