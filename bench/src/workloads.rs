@@ -56,12 +56,6 @@ fn bumps(num_vars: usize) -> String {
     fill(heading(num_vars, "vsids"), MAX_SHEET, || format!("b\t{}\ny\n", rng.below(num_vars)))
 }
 
-/// Bumps of variables that are all in the heap, with decays by one half between them: every 332 of these a bump scales all activities.
-fn scaled(num_vars: usize) -> String {
-    let mut rng = Rng::new(12);
-    fill(heading(num_vars, "vsids") + "w\t3fe0000000000000\n", MAX_SHEET, || format!("b\t{}\ny\ny\ny\ny\n", rng.below(num_vars)))
-}
-
 /// Every variable decided, all undone, again and again.
 fn drains(num_vars: usize) -> String {
     let round = "g\t1\n".repeat(num_vars) + "k\t0\n";
@@ -170,7 +164,6 @@ pub fn growth() -> Vec<Workload> {
     add("list made", &made, &|n| creation(n, "vmtf", false));
     add("list made, N clauses", &[3, 16, 64, 256, 1024], &|n| made_with_clauses(n, "vmtf"));
     add("heap session", &sizes, &|n| heap_session(n, MAX_SHEET));
-    add("heap scaled", &[64, 512, 2048], &scaled);
     add("list session", &sizes, &|n| list_session(n, MAX_SHEET));
     add("one group of N", &[3, 16, 64, 256, 1024, 2048], &|n| heading(n, "vmtf") + &numbers("f", n, n, &mut Rng::new(7)));
     add("heap round", &[16, 64, 256, 1024, 2048], &|n| round(n, "vsids"));

@@ -162,8 +162,7 @@ static inline uint32_t sigvort_code(uint32_t variable, int positive)
    These are of heap mode:
 
    activity    N doubles: the activity of each variable
-   heap        N words: the members, in heap order: no member at a place i above 0 comes before the one at (i - 1) / 2. A variable comes before another
-               where its activity is greater, or equal and its number lower
+   heap        N words: the members, in heap order
    indices     N words: the place of each variable in heap, or SIGVORT_NONE
    decision    N bytes: 1 where the variable is switched on, 0 where it is off
    members     how much of heap is in use
@@ -615,7 +614,7 @@ static inline uint32_t sigvort_heap_one(struct sigvort_heap *s, uint32_t letter,
     return status != 0 ? status : answer[0];
 }
 
-/* Adds the step to the variable's activity. Above 1e100 all activities and the step are scaled, and the members put in order afresh. */
+/* Adds the step to the variable's activity. */
 static inline uint32_t sigvort_heap_bump(struct sigvort_heap *s, uint32_t variable)
 {
     uint32_t reply;
@@ -652,8 +651,7 @@ static inline uint32_t sigvort_heap_switch_off(struct sigvort_heap *s, uint32_t 
     return sigvort_heap_one(s, SIGVORT_SWITCH_OFF, variable, 0, &reply);
 }
 
-/* Chooses the open variable with the greatest activity, of equal activities the lowest number, opens a level and gives it the polarity, 0 or 1. The
-   variable is SIGVORT_NONE if nothing is open. */
+/* Chooses an open variable, opens a level and gives it the polarity, 0 or 1. The variable is SIGVORT_NONE if nothing is open. */
 static inline uint32_t sigvort_heap_decide(struct sigvort_heap *s, uint32_t polarity, uint32_t *variable)
 {
     return sigvort_heap_one(s, SIGVORT_DECIDE, polarity, 0, variable);

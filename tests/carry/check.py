@@ -263,7 +263,6 @@ def refused():
         (heap_text(4096)[:-1], form), (heap_text(4096, [[9999]] * 3000, curr=1), many),
         (heap_text(3, [[1]] * 2049), clauses), (heap_text(3, [[1] * 8193]), clauses), (heap_text(3, [[6]]), clauses), (heap_text(3, [[6]], curr=1), clauses),
         (heap_text(3, curr=1), state), (list_text(3, curr=1), state), (heap_text(3, trail=[1, 1]), state), (heap_text(3, trail=[6]), state),
-        (good.replace(b"h\t0\t1", b"h\t1\t0"), state),
     ]
     for text, line in texts:
         write(text)

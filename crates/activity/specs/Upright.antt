@@ -1,13 +1,12 @@
 -- Doubles without sign bit that are no NaN: on them `le` is a total preorder, and `lt` denies its converse.
 -- A finite one is the fraction num / den, and its order is that of fractions; the infinity is above all. Assumes nothing.
-use Rattle.std.specs.Prelude.{◌≡◌, refl, ◌⊎◌, Bool, true, false, not, ◌&&◌, ◌||◌, ℕ, zero, suc, ◌+◌, ◌*◌, ◌≤◌, ◌<◌, ℤ, T, ltb, eqb, Float}
-use Rattle.std.proofs.Common.{sym, ◌∙◌, inl, inr, true≢false, arith, ltb→lt, lt→ltb, eqb→eq, lt-ltb, le-ltb, eq-eqb, ne_eqb, eqb-true}
+use Rattle.std.specs.Prelude.{◌≡◌, refl, ◌⊎◌, Bool, true, false, not, ◌&&◌, ◌||◌, ℕ, zero, suc, ◌*◌, ◌≤◌, ◌<◌, ℤ, T, ltb, eqb, Float}
+use Rattle.std.proofs.Common.{sym, ◌∙◌, inl, inr, true≢false, arith, ltb→lt, lt→ltb, eqb→eq, lt-ltb, le-ltb, eq-eqb, ne_eqb}
 use Rattle.std.proofs.Math.Nat as N
 use Rattle.std.proofs.Math.Decide.{dec_le, ℕ_discrete}
 use Rattle.std.specs.Float.{nan, inf, fin}
-use Rattle.std.specs.Float.Ieee.{up, down, below, level, le, lt, eq}
+use Rattle.std.specs.Float.Ieee.{up, down, le, lt}
 use Rattle.std.specs.Float.Ieee.Bits.{is_true}
-use Rattle.laws.specs.Tests.{and_left, and_right, true_or_false}
 use Rattle.std.specs.Float.Ieee.Exact.{HasValue}
 use Rattle.std.specs.Float.Ieee.Order.{le_of_values}
 use Rattle.std.specs.Float.Ieee.Positive.{num, den, den_pos, through, positive, above as Ieee·above, above_of_le}
@@ -99,54 +98,15 @@ lt_false {x} {y} u v e = go (le y x) (sym (lt_is u v) ∙ e)
 pub lt_of_le : {x y : Float} → Upright x → Upright y → T (le y x) → lt x y ≡ false
 lt_of_le {x} {y} u v h = rw (lt_is u v, is_true (le y x) h)
 
--- of doubles that are equal, whatever their signs, neither is less
-level_not_below : (s : Bool) (a : ℕ) (t : Bool) (b : ℕ) → level s a t b ≡ true → below t b s a ≡ false
-level_not_below false a false b e = le-ltb b a (N.le_of_eq (eqb-true a b (and_left (eqb a b) true e)))
-level_not_below false a true b e =
-    let same = eqb-true a b (and_left (eqb a b) (eqb a 0) e) in
-    let none = eqb-true a 0 (and_right (eqb a b) (eqb a 0) e) in
-    le-ltb 0 (b + a) (omega arith)
-level_not_below true a false b e = refl
-level_not_below true a true b e = le-ltb a b (N.le_of_eq (sym (eqb-true a b (and_left (eqb a b) true e))))
+-- what the heap's moves ask of a comparison: it is asymmetric, and its denial can be passed on
+pub lt_asym : {x y : Float} → Upright x → Upright y → lt x y ≡ true → lt y x ≡ false
+lt_asym {x} {y} u v e = elim (le_total u v) [
+  | inl h ↦ lt_of_le v u h
+  | inr h ↦ absurd (true≢false (sym e ∙ lt_of_le u v h))
+]
 
-pub eq_not_lt : (x y : Float) → eq x y ≡ true → lt y x ≡ false
-unfolding eq lt
-eq_not_lt (inf true) (inf true) e = refl
-eq_not_lt (inf false) (inf false) e = refl
-eq_not_lt (inf true) (inf false) e = absurd (true≢false (sym e))
-eq_not_lt (inf false) (inf true) e = absurd (true≢false (sym e))
-eq_not_lt (fin s m e) (fin t n d) q = level_not_below s (m * up e * down d) t (n * up d * down e) q
-eq_not_lt nan y e = absurd (true≢false (sym e))
-eq_not_lt (inf s) nan e = absurd (true≢false (sym e))
-eq_not_lt (inf s) (fin t n d) e = absurd (true≢false (sym e))
-eq_not_lt (fin s m e) nan q = absurd (true≢false (sym q))
-eq_not_lt (fin s m e) (inf t) q = absurd (true≢false (sym q))
-
--- `eq` is `le` both ways
-eq_back : {x y : Float} → Upright x → Upright y → eq x y ≡ true → T (le y x)
-unfolding eq
-eq_back (finite (number m e)) (finite (number n d)) q =
-    let same = eqb-true (m * up e * down d) (n * up d * down e) (and_left (eqb (m * up e * down d) (n * up d * down e)) true q) in
-    cross→le (number n d) (number m e) (N.le_of_eq (sym same))
-eq_back (finite (number m e)) infinite q = absurd (true≢false (sym q))
-eq_back infinite (finite (number n d)) q = absurd (true≢false (sym q))
-eq_back infinite infinite q = le_inf infinite
-
-eq_of : {x y : Float} → Upright x → Upright y → T (le x y) → T (le y x) → eq x y ≡ true
-unfolding le
-eq_of {x} {y} u v h k = let below : lt x y ≡ false = lt_of_le u v k in is_true (eq x y) (rw below at h)
-
--- x is ahead of y: it is greater, or equal and some test t holds. So y is at most x, and where x is at most y the test holds
-module _ {x y : Float} (u : Upright x) (v : Upright y) (t : Bool) where
-  pub ahead_says : lt y x || (eq x y && t) ≡ true → T (le y x) × (T (le x y) → t ≡ true)
-  ahead_says e = true_or_false (le x y)
-      (λ h. let q : eq x y && t ≡ true = rw (lt_is v u, h) at e in (eq_back u v (and_left (eq x y) t q), λ _. and_right (eq x y) t q))
-      (λ h. let f : T (le x y) → ⊥ = λ k. rw h at k in (elim (le_total u v) [ inl k ↦ absurd (f k) | inr k ↦ k ], λ k. absurd (f k)))
-
-  pub ahead_of : T (le y x) → (T (le x y) → t ≡ true) → lt y x || (eq x y && t) ≡ true
-  ahead_of k f = true_or_false (le x y)
-      (λ h. let l : T (le x y) = rw h tt in rw (lt_is v u, h, eq_of u v l k, f l))
-      (λ h. rw (lt_is v u, h))
+pub lt_pass : {x y z : Float} → Upright x → Upright y → Upright z → lt x y ≡ false → lt y z ≡ false → lt x z ≡ false
+lt_pass u v w h k = lt_of_le u w (le_trans w v u (lt_false v w k) (lt_false u v h))
 
 -- ---- positive numbers
 pub finite_of : {x : Float} → Positive x → Finite x

@@ -1,16 +1,15 @@
--- Cases A to L of document 01 in its order, its worked sheet with the answer of request W2 on line 7, and this request's scaling. Each is an instance of one claim, `Holds`, and is computed.
-use Rattle.std.specs.Prelude.{ℕ, ◌≡◌, refl, false, List, [], ◌∷◌, ◌++◌, map, Float}
-use Rattle.lit.specs.Numbers.{NONE, unassigned, switched_on, switched_off}
+-- Cases A to L of document 01 in its order, and its worked sheet. Each is an instance of one claim, `Holds`, and is computed.
+use Rattle.std.specs.Prelude.{ℕ, ◌≡◌, refl, [], ◌∷◌, map}
+use Rattle.lit.specs.Numbers.{NONE, switched_on, switched_off}
 use Rattle.formula.specs.declared.checks.SatResult.TheVariants.{Err, Sat, Unsat}
 use Rattle.formula.specs.declared.checks.Checked.TheVariants.{Answer}
 use Rattle.formula.specs.Checks.{sat_number, checked_numbers}
 use Rattle.vsids.specs.Vsids.{Vsids}
-use Rattle.vsids.specs.Check.{check_heap}
 use Rattle.vmtf.specs.Vmtf.{count_lits}
 use Rattle.book.specs.Calls.{bump, decay, set_decay, switch_off, decide, learn_unit, go_back, group}
 use Rattle.cases.specs.Claim.{Machine, Holds}
 use Rattle.cases.specs.Machines.{Clauses, codes, passes, says_none, says, refused, heap_mode, list_mode, Formula, formula_check}
-use Rattle.cases.specs.States.{undone, untouched, decided_one, learned_one, zero, one, two, tiny, half, usual, e100, e200, step_of, member_one, empty_one, list}
+use Rattle.cases.specs.States.{undone, untouched, decided_one, learned_one, zero, one, two, half, usual, e100, e200, step_of, member_one, empty_one, list}
 use Rattle.cases.specs.Definitions.{definitions}
 
 -- one variable in heap mode
@@ -199,8 +198,8 @@ pub case_L_numbers : map checked_numbers (Answer Sat ∷ Answer Err ∷ Answer U
 unfolding checked_numbers sat_number
 case_L_numbers = refl
 
--- The worked sheet, from `b|2` on, with its clause `c|1|3`: lines 3 to 8 answer -, 2, 0, 1, 0, 2: of 0 and 1, which have equal
--- activities, the lower is chosen each time. At the end all three variables are members again, 2 in front by its bump.
+-- The worked sheet, from `b|2` on, with its clause `c|1|3`: lines 3 to 8 answer -, 2, 0, 1, 1, 2. At the end all three variables are
+-- undone and members again, 2 in front by its bump.
 abbrev sheet : Machine
 sheet = heap_mode 3 ((1 ∷ 3 ∷ []) ∷ [])
 
@@ -217,56 +216,8 @@ led_by_two = record {
 pub worked_sheet : Holds sheet (record {
   start = sheet.fresh;
   calls = bump 2 ∷ decide 1 ∷ decide 0 ∷ go_back 1 ∷ decide 0 ∷ go_back 0 ∷ [];
-  answers = passes ∷ says 2 ∷ says 0 ∷ says 1 ∷ says 0 ∷ says 2 ∷ [];
-  end = record { trail = undone (2 ∷ NONE ∷ 1 ∷ []); chooser = led_by_two };
+  answers = passes ∷ says 2 ∷ says 0 ∷ says 1 ∷ says 1 ∷ says 2 ∷ [];
+  end = record { trail = undone (2 ∷ 2 ∷ 1 ∷ []); chooser = led_by_two };
 })
 unfolding definitions
 worked_sheet = (refl, refl)
-
--- Request W2. Variables 0 to 2 have the least activities above 0, and 1, which has the greatest of them, leads. A bump of 3, which is off and no member, scales
--- them to 0. Put in order afresh from where they stand they are 0, 2, 1: neither as they were nor sorted. Then 0 is chosen.
-abbrev fading : List Float → List ℕ → List ℕ → Float → Vsids
-fading activities members positions inc = record {
-  activity = activities;
-  heap = members ++ NONE ∷ [];
-  indices = positions ++ NONE ∷ [];
-  decision = switched_on ∷ switched_on ∷ switched_on ∷ switched_off ∷ [];
-  len = 3;
-  step = step_of inc usual;
-}
-
-abbrev faint : Vsids
-faint = fading (tiny 1 ∷ tiny 2 ∷ tiny 1 ∷ zero ∷ []) (1 ∷ 2 ∷ 0 ∷ []) (2 ∷ 0 ∷ 1 ∷ []) e200
-
-abbrev faded : Vsids
-faded = fading (zero ∷ zero ∷ zero ∷ e100 ∷ []) (0 ∷ 2 ∷ 1 ∷ []) (0 ∷ 2 ∷ 1 ∷ []) e100
-
-pub scaled_afresh : Holds (heap_mode 4 []) (record {
-  start = record { trail = untouched 4; chooser = faint };
-  calls = bump 3 ∷ [];
-  answers = passes ∷ [];
-  end = record { trail = untouched 4; chooser = faded };
-})
-unfolding definitions
-scaled_afresh = (refl, refl)
-
-pub scaled_choice : Holds (heap_mode 4 []) (record {
-  start = record { trail = untouched 4; chooser = faint };
-  calls = bump 3 ∷ decide 1 ∷ go_back 0 ∷ [];
-  answers = passes ∷ says 0 ∷ says 1 ∷ [];
-  end = record { trail = undone (1 ∷ NONE ∷ NONE ∷ NONE ∷ []); chooser = faded };
-})
-unfolding definitions
-scaled_choice = (refl, refl)
-
--- And a heap of equal activities in which 1 stands above 0 does not pass the check.
-pub out_of_order : check_heap 2 (unassigned ∷ unassigned ∷ []) (record {
-  activity = zero ∷ zero ∷ [];
-  heap = 1 ∷ 0 ∷ [];
-  indices = 1 ∷ 0 ∷ [];
-  decision = switched_on ∷ switched_on ∷ [];
-  len = 2;
-  step = step_of one usual;
-}) ≡ false
-unfolding definitions
-out_of_order = refl

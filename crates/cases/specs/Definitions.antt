@@ -43,7 +43,7 @@ unfolding up_to heap.comes_first heap.walk heap.rises heap.percolate_up heap.rig
 heaps = tt
 
 unfoldable pub heap_modes : Unit {0}
-unfolding doubles heaps vsids.new vsids.is_open vsids.remove_first vsids.get_next_of vsids.get_next vsids.add_step vsids.scaled_all vsids.afresh vsids.rescale vsids.move_up vsids.bump_variable vsids.turn_off vsids.insert member_ok place_ok position_ok variable_ok check_heap
+unfolding doubles heaps vsids.new vsids.is_open vsids.remove_first vsids.get_next_of vsids.get_next vsids.add_step vsids.scaled_all vsids.rescale vsids.move_up vsids.bump_variable vsids.turn_off vsids.insert member_ok place_ok position_ok variable_ok check_heap
 heap_modes = tt
 
 -- the sorted counts, and the move-to-front list with the check of it

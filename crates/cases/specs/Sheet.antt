@@ -1,4 +1,4 @@
--- The worked sheet of document 01, with the answer of document 02 on line 7, byte by byte: what a host gets for it, computed from the definition of the run.
+-- The worked sheet of document 01, byte by byte: what a host gets for it, computed from the definition of the run.
 use Rattle.std.specs.Prelude.{ℕ, ◌+◌, ◌≡◌, refl, List, [], ◌∷◌, ◌++◌}
 use Rattle.std.proofs.Math.Option.{none}
 use Rattle.formula.specs.Clauses.{clause_fits}
@@ -38,7 +38,7 @@ sheet = bytes (
 abbrev answer : ℕ → ℕ → List ℕ
 answer i reply = digit i ∷ tab ∷ digit 0 ∷ tab ∷ reply ∷ []
 
--- `1|0|-`, `2|0|-`, `3|0|-`, `4|0|2`, `5|0|0`, `6|0|1`, `7|0|0`, `8|0|2`
+-- `1|0|-`, `2|0|-`, `3|0|-`, `4|0|2`, `5|0|0`, `6|0|1`, `7|0|1`, `8|0|2`
 abbrev pub replies : List ℕ
 replies = bytes (
     answer 1 dash
@@ -47,7 +47,7 @@ replies = bytes (
     ∷ answer 4 (digit 2)
     ∷ answer 5 (digit 0)
     ∷ answer 6 (digit 1)
-    ∷ answer 7 (digit 0)
+    ∷ answer 7 (digit 1)
     ∷ answer 8 (digit 2)
     ∷ [])
 

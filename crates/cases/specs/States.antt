@@ -64,10 +64,6 @@ pub two_is : two ≡ round binary64 false 2 1
 unfolding of_bits round
 two_is = refl
 
--- the k-th least double above 0
-abbrev pub tiny : ℕ → Float
-tiny k = of_bits binary64 k
-
 -- a step, with its decay
 abbrev pub step_of : Float → Float → Step
 step_of inc decay = record { inc = inc; decay = decay }

@@ -1,14 +1,10 @@
 -- The claims on saved sessions in heap mode: what is read is what was written, and nothing else is taken. Assumes nothing.
-use Rattle.std.specs.Prelude.{ℕ, ◌+◌, ◌*◌, ◌≤◌, ◌≡◌, refl, ◌↔◌, true, List, map, length, take}
+use Rattle.std.specs.Prelude.{ℕ, ◌+◌, ◌*◌, ◌≤◌, ◌≡◌, refl, ◌↔◌, true, List, length, take}
 use Rattle.std.proofs.Common.{sym, ap, subst, ◌∙◌, arith}
 use Rattle.std.proofs.Math.Option.{none, some}
-use Rattle.std.specs.Float.{binary64}
-use Rattle.std.specs.Float.Ieee.{of_bits}
 use Rattle.lit.specs.Numbers.{bad_saved}
 use Rattle.trail.specs.Trail.{Trail}
-use Rattle.vsids.specs.Vsids.{Vsids, get_next}
-use Rattle.vsids.specs.Good.{GoodHeap}
-use Rattle.vsids.specs.Choice.{answer_of, same_choice}
+use Rattle.vsids.specs.Vsids.{Vsids}
 use Rattle.book.specs.Session.{Result, done, status, reply, leaves, Session}
 use Rattle.book.specs.Saved.{forgot}
 use Rattle.session.specs.Entry.{reply_number}
@@ -22,7 +18,6 @@ use Rattle.forms.specs.Forms.{vsids}
 use Rattle.forms.specs.Text.{written}
 use Rattle.saved_text.specs.Saved.{Saved, text_of}
 use Rattle.saved_state.specs.Written.{heap_rows, saved_heap}
-use Rattle.saved_state.specs.Said.{row, trail_said, heap_said}
 use Rattle.saved_state.specs.Entry.{Memory, wrote, read}
 use Rattle.saved_state.specs.Judged.{DoubleStep, Says, same_lengths, Judged}
 use Rattle.saved_state.specs.Length.{text_room, heap_room}
@@ -97,23 +92,6 @@ one_text n n' lits lits' ends ends' t t' h h' g k =
       λ e. (let r = same.0 e in (r.0, ap (λ (m : Memory Vsids). m.0) r.1, ap (λ (m : Memory Vsids). m.1) r.1, ap (λ (m : Memory Vsids). m.2) r.1, ap (λ (m : Memory Vsids). m.3) r.1)),
       λ (vars, a, b, c, d). same.1 (vars, λ i. (a i, b i, c i, d i)),
     )
-
--- Equal texts, equal choices.
-pub equal_texts : (n n' : ℕ) (lits lits' ends ends' : List ℕ) (t t' : Trail) (h h' : Vsids) → Savable n (lits, ends, t, h) → Savable n' (lits', ends', t', h')
-    → text_of (saved_heap n lits ends t h) ≡ text_of (saved_heap n' lits' ends' t' h') → answer_of (get_next t.values h) ≡ answer_of (get_next t'.values h')
-unfolding forgot
-equal_texts n n' lits lits' ends ends' t t' h h' g k e =
-    let (_, _, _, trails, same) = (one_text n n' lits lits' ends ends' t t' h h' g k).0 e in
-    ap (λ (u : Trail). answer_of (get_next u.values h)) trails ∙ ap (λ (c : Vsids). answer_of (get_next t'.values c)) same
-
--- And the number of variables and the lines `t`, `a` and `o` are enough: how members stand on line `h` does not bear on the choice, in good sessions as texts say them.
-pub same_lines : (s s' : Saved) → GoodHeap s.opening.vars (trail_said s).values (heap_said s) → GoodHeap s'.opening.vars (trail_said s').values (heap_said s')
-    → s.opening.vars ≡ s'.opening.vars → s.codes ≡ s'.codes → row s 4 ≡ row s' 4 → row s 5 ≡ row s' 5
-    → answer_of (get_next (trail_said s).values (heap_said s)) ≡ answer_of (get_next (trail_said s').values (heap_said s'))
-same_lines s s' g k vars codes activities switches =
-    let values : (trail_said s).values ≡ (trail_said s').values = rw (vars, codes) in
-    let g' = subst (λ (l : List ℕ). GoodHeap s'.opening.vars l (heap_said s)) values (subst (λ (n : ℕ). GoodHeap n (trail_said s).values (heap_said s)) vars g) in
-    ap (λ (l : List ℕ). answer_of (get_next l (heap_said s))) values ∙ same_choice (heap_said s) (heap_said s') g' k (ap (map (of_bits binary64)) activities) switches
 
 -- How long the text of a good session is.
 pub text_length : (n : ℕ) (lits ends : List ℕ) (t : Trail) (h : Vsids) → Savable n (lits, ends, t, h) → length (text_of (saved_heap n lits ends t h)) ≤ 80 + 41 * n + 2 * length ends + 5 * length lits

@@ -15,7 +15,7 @@ use lit::{BAD_POLARITY, NONE};
 use session::on_trail::unit_refusal;
 use vsids::{Next, VsidsState};
 
-// Takes the open variable that comes first and puts its literal with the polarity on the trail as a decision.
+// Takes the open variable of the highest activity and puts its literal with the polarity on the trail as a decision.
 pub fn decide(
     values: &mut [u8],
     levels: &mut [u32],

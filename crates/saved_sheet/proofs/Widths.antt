@@ -20,7 +20,7 @@ use Rattle.activity.specs.Doubles.{limit}
 use Rattle.activity.specs.Step.{large_step}
 use Rattle.formula.specs.Clauses.{clause}
 use Rattle.heap.specs.Heap.{in_heap}
-use Rattle.vsids.specs.Vsids.{Vsids, is_on, is_open, remove_first, Found, get_next_of, get_next, add_step, scaled_all, afresh, rescale, move_up, bump_all, turn_off}
+use Rattle.vsids.specs.Vsids.{Vsids, is_on, is_open, remove_first, Found, get_next_of, get_next, add_step, scaled_all, rescale, move_up, bump_all, turn_off}
 use Rattle.vsids.specs.Vsids as vsids
 use Rattle.vmtf.specs.Vmtf.{Vmtf, max_stamp, rescore, relink, tick, move_to_front, move_all, by_stamp, any_open, first_open, from}
 use Rattle.vmtf.specs.Vmtf as vmtf
@@ -149,7 +149,7 @@ module _ (n m : ℕ) {O : Operations} {P : O.State → Type 0} (K : Keeps O P) w
 -- ---- heap mode
 
 rescale_double : (v : ℕ) (h : Vsids) → DoubleStep h → DoubleStep (rescale v h)
-unfolding rescale afresh scaled_all
+unfolding rescale scaled_all
 rescale_double v h q = cond_elim DoubleStep (lt limit (get_or h.activity v nan)) (λ _. (mul-fits binary64 _ _, q.1)) (λ _. q)
 
 bump_double : (v : ℕ) (h : Vsids) → DoubleStep h → DoubleStep (vsids.bump_variable v h)

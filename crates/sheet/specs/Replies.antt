@@ -66,7 +66,7 @@ module _ (n m : ℕ) (O : Operations) (small : n ≤ max_vars) (s : Session n m 
   called_reply (some c) = call_reply c
 
 heap_chosen : (n : ℕ) (values : List ℕ) (h : vsids.Vsids) (r : vsids.Found) → Right n values h r → Chosen n (heap.next_of r)
-heap_chosen n values h (vsids.chose v h') q = q.choice.var
+heap_chosen n values h (vsids.chose v h') q = q.var
 heap_chosen n values h (vsids.nothing h') q = tt
 
 list_chosen : (n : ℕ) (order values : List ℕ) (l : Vmtf) (r : code.Next) → NextIs n order values l r → Chosen n (list.next_of l r)

@@ -1,20 +1,16 @@
--- What `get_next` answers: the first of the open variables, of which there is one at most, and none exactly when nothing is open. So the answer is
--- fixed by activities, switches and values. Assumes nothing.
-use Rattle.std.specs.Prelude.{◌≡◌, refl, ◌↔◌, Bool, true, false, List, ℕ, zero, suc, ◌<◌, T, Float, get_or, set}
+-- What `get_next` answers: an open variable before which no open variable comes, and none exactly when nothing is open. Assumes nothing.
+use Rattle.std.specs.Prelude.{◌≡◌, refl, Bool, true, false, List, ℕ, zero, suc, ◌<◌, T, get_or, set}
 use Rattle.std.proofs.Common.{sym, ap, ◌∙◌, true≢false, arith}
-use Rattle.std.proofs.Math.Option.{Option, none, some, some-ne-none, some-injective}
-use Rattle.std.proofs.Math.Decide.{ℕ_discrete}
 use Rattle.std.specs.Float.{nan}
 use Rattle.std.specs.Float.Ieee.{le}
-use Rattle.activity.specs.declared.Step.{Step}
-use Rattle.heap.specs.Heap.{comes_first, parent}
+use Rattle.heap.specs.Heap.{parent}
 use Rattle.laws.specs.Tests.{cond_elim, not_true}
 use Rattle.vsids.specs.Vsids.{Vsids, places, before, is_open, remove_first, Found, chose, nothing, get_next_of, get_next}
-use Rattle.vsids.specs.Good.{Scores, GoodHeap, FirstOpen, Chosen, Right}
+use Rattle.vsids.specs.Good.{GoodHeap, Chosen, Right}
 use Rattle.heap.specs.Inverses.{remove_inverse}
 use Rattle.heap.specs.Orders.{remove_order, first}
 use Rattle.heap.specs.Members.{member, remove_member}
-use Rattle.vsids.specs.Scoring.{comes_strict, comes_order, no_higher}
+use Rattle.vsids.specs.Scoring.{comes_order, no_higher}
 use Rattle.vsids.specs.Kept.{closed}
 
 module _ {n : ℕ} {values : List ℕ} (h : Vsids) (g : GoodHeap n values h) (z : 0 < h.len) where
@@ -30,17 +26,19 @@ module _ {n : ℕ} {values : List ℕ} (h : Vsids) (g : GoodHeap n values h) (z 
     open_in = λ u l q. let w = f u q in remove_member (before h) (omega (arith, g.inverse.room.fits, g.inverse.room.small)) (places h) u w.1 (g.open_in u l w.0);
   }
 
-  -- the first member comes before every other open variable
-  top : (u : ℕ) → u < n → is_open values h.decision u ≡ true → (u ≡ get_or h.heap 0 0 → ⊥) → before h (get_or h.heap 0 0) u ≡ true
-  top u l e f =
+  -- no open variable comes before the first member
+  top : (u : ℕ) → u < n → is_open values h.decision u ≡ true → before h u (get_or h.heap 0 0) ≡ false
+  top u l e =
       let w = member g.inverse u l (g.open_in u l e) in
       let t = first (comes_order g.scores) h.len h.heap g.inverse.room.members g.ordered (get_or h.indices u 0) w.0 in
-      (comes_strict g.scores).total u (get_or h.heap 0 0) l (g.inverse.room.members 0 z) f (rw w.1 at t)
+      rw w.1 at t
 
   chosen : is_open values h.decision (get_or h.heap 0 0) ≡ true → Chosen n values h (get_or h.heap 0 0) (remove_first h)
   unfolding remove_first
   chosen e = record {
-    choice = record { var = g.inverse.room.members 0 z; is_open = e; first = top };
+    var = g.inverse.room.members 0 z;
+    is_open = e;
+    highest = top;
     good = λ p b. taken (set values (get_or h.heap 0 0) p) (λ u q. closed values h.decision (get_or h.heap 0 0) p u b q);
     switches = refl;
   }
@@ -48,7 +46,7 @@ module _ {n : ℕ} {values : List ℕ} (h : Vsids) (g : GoodHeap n values h) (z 
 -- what is right after a member is dropped was right before
 lift : (n : ℕ) (values : List ℕ) (h : Vsids) (r : Found) → Right n values (remove_first h) r → Right n values h r
 unfolding remove_first
-lift n values h (chose v h') c = record { choice = c.choice; good = c.good; switches = c.switches }
+lift n values h (chose v h') c = record { var = c.var; is_open = c.is_open; highest = c.highest; good = c.good; switches = c.switches }
 lift n values h (nothing h') c = record { none = c.none; good = c.good; switches = c.switches }
 
 one_less : (h : Vsids) (k : ℕ) → h.len ≡ suc k → (remove_first h).len ≡ k
@@ -77,48 +75,11 @@ get_next_right h g = right_of h.len h refl g
 pub chose_right : {n : ℕ} {values : List ℕ} {v : ℕ} {h' : Vsids} (h : Vsids) → GoodHeap n values h → get_next values h ≡ chose v h' → Chosen n values h v h'
 chose_right h g e = rw e at (get_next_right h g)
 
--- ---- there is one first at most, so good heaps that agree on activities and switches choose the same
-module _ {n : ℕ} {values decision : List ℕ} {a : List Float} {s : Step} (c : Scores n a s) where
-  pub first_once : (u v : ℕ) → FirstOpen n values decision a u → FirstOpen n values decision a v → u ≡ v
-  first_once u v p q = go (ℕ_discrete u v)
-    where
-      go : Dec (u ≡ v) → u ≡ v
-      go (yes e) = e
-      go (no f) = absurd (true≢false (sym (p.first v q.var q.is_open (λ e. f (sym e))) ∙ (comes_order c).asym v u q.var p.var (q.first u p.var p.is_open f)))
+-- in activities: the chosen variable's is no lower than any other open variable's, and a parent's no lower than its member's
+pub chosen_highest : {n : ℕ} {values : List ℕ} {v : ℕ} {h h' : Vsids} → GoodHeap n values h → Chosen n values h v h'
+    → (u : ℕ) → u < n → is_open values h.decision u ≡ true → T (le (get_or h.activity u nan) (get_or h.activity v nan))
+chosen_highest {v = v} g c u l e = no_higher g.scores u v l c.var (c.highest u l e)
 
-  -- its activity is no lower than that of any other
-  pub first_highest : (v : ℕ) → FirstOpen n values decision a v → (u : ℕ) → u < n → is_open values decision u ≡ true → T (le (get_or a u nan) (get_or a v nan))
-  first_highest v p u l e = no_higher c u v l p.var (go (ℕ_discrete u v))
-    where
-      go : Dec (u ≡ v) → comes_first a u v ≡ false
-      go (yes q) = rw q ((comes_strict c).irrefl v p.var)
-      go (no f) = (comes_order c).asym v u p.var l (p.first u l e f)
-
--- the answer by itself: the variable, or none
-abbrev pub answer_of : Found → Option ℕ
-answer_of (chose v h) = some v
-answer_of (nothing h) = none
-
--- v is the answer exactly where it is the first of the open variables
-pub chose_first : {n : ℕ} {values : List ℕ} (h : Vsids) → GoodHeap n values h → (v : ℕ) → (answer_of (get_next values h) ≡ some v) ↔ FirstOpen n values h.decision h.activity v
-chose_first {n} {values} h g v = go (get_next values h) (get_next_right h g)
-  where
-    go : (r : Found) → Right n values h r → (answer_of r ≡ some v) ↔ FirstOpen n values h.decision h.activity v
-    go (chose w h') c = (λ e. rw (some-injective w v e) at c.choice, λ p. ap some (first_once g.scores w v c.choice p))
-    go (nothing h') c = (λ e. absurd (some-ne-none v (sym e)), λ p. absurd (true≢false (sym p.is_open ∙ c.none v p.var)))
-
--- good heaps that agree on activities and switches give the same answer under the same values, however their members stand
-pub same_choice : {n : ℕ} {values : List ℕ} (h t : Vsids) → GoodHeap n values h → GoodHeap n values t → h.activity ≡ t.activity → h.decision ≡ t.decision
-    → answer_of (get_next values h) ≡ answer_of (get_next values t)
-same_choice {n} {values} h t g k a d = go (get_next values h) (get_next values t) (get_next_right h g) (get_next_right t k)
-  where
-    go : (r q : Found) → Right n values h r → Right n values t q → answer_of r ≡ answer_of q
-    go (chose v _) (chose w _) b c = ap some (first_once k.scores v w (rw (a, d) at b.choice) c.choice)
-    go (chose v _) (nothing _) b c = absurd (true≢false (sym b.choice.is_open ∙ rw d (c.none v b.choice.var)))
-    go (nothing _) (chose w _) b c = absurd (true≢false (sym c.choice.is_open ∙ rw (← d) (b.none w c.choice.var)))
-    go (nothing _) (nothing _) b c = refl
-
--- in activities: a parent's is no lower than its member's
 pub parent_no_lower : {n : ℕ} {values : List ℕ} {h : Vsids} → GoodHeap n values h → (i : ℕ) → 0 < i → i < h.len
     → T (le (get_or h.activity (get_or h.heap i 0) nan) (get_or h.activity (get_or h.heap (parent i) 0) nan))
 parent_no_lower g i z l = let m = g.inverse.room.members in no_higher g.scores _ _ (m i l) (m (parent i) (omega arith)) (g.ordered i z l)
@@ -139,5 +100,5 @@ pub open_none : {n : ℕ} {values : List ℕ} (h : Vsids) → GoodHeap n values 
 open_none {n} {values} h g closed = go (get_next values h) (get_next_right h g)
   where
     go : (r : Found) → Right n values h r → says_none r ≡ true
-    go (chose v h') c = absurd (true≢false (sym c.choice.is_open ∙ closed v c.choice.var))
+    go (chose v h') c = absurd (true≢false (sym c.is_open ∙ closed v c.var))
     go (nothing h') c = refl

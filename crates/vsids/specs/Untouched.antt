@@ -1,11 +1,10 @@
 -- A heap with its members in the order of their numbers and no activity above 0, as creation leaves it: it passes the check. Assumes nothing.
 use Rattle.std.specs.Prelude.{◌≡◌, refl, Bool, true, false, ◌&&◌, List, ℕ, ◌≤◌, ◌<◌, T, eqb, Float, length, get_or}
 use Rattle.std.proofs.Common.{◌∙◌, arith}
-use Rattle.std.proofs.Math.Bool.{and-false}
 use Rattle.std.proofs.Math.Decide.{ℕ_discrete}
 use Rattle.std.specs.Float.{nan}
 use Rattle.std.specs.Float.Ieee.{le, of_bits}
-use borrow.Author.Tests.{eqb-true, lt-ltb, le-ltb, eq-eqb, ne_eqb}
+use borrow.Author.Tests.{eqb-true, lt-ltb, eq-eqb, ne_eqb}
 use Rattle.laws.specs.Tests.{and_left, and_right}
 use Rattle.laws.specs.Every.{every, every_at, every_all}
 use Rattle.lit.specs.Numbers.{NONE, max_vars}
@@ -31,7 +30,7 @@ untouched len activity heap indices =
     eqb len (length activity)
     && (every (activity_within zero_activity activity) (length activity) && (every (own_place heap) (length heap) && every (own_place indices) (length indices)))
 
--- 0 is the least, so no activity of an untouched heap is above another, and the lower number comes first
+-- 0 is the least, so no activity of an untouched heap comes before another
 zero_least : {x : Float} → Upright x → T (le zero_activity x)
 unfolding of_bits
 zero_least {x} (finite p) = cross→le (number _ _) p (omega arith)
@@ -44,10 +43,10 @@ max_sound = within_true refl
 zero_activity_lem : {x : Float} → Within zero_activity x → Within max_activity x
 zero_activity_lem w = record { sound = w.sound; small = le_trans w.sound zero_within.sound max_sound.sound w.small zero_within.small }
 
-none_first : (activity : List Float) (x y : ℕ) → y ≤ x → Within zero_activity (get_or activity x nan) → Within zero_activity (get_or activity y nan) → comes_first activity x y ≡ false
-unfolding comes_first
-none_first activity x y h v w =
-    rw (lt_of_le w.sound v.sound (le_trans v.sound zero_within.sound w.sound v.small (zero_least w.sound)), le-ltb x y h, and-false)
+module _ (activity : List Float) where
+  none_first : (x y : ℕ) → Within zero_activity (get_or activity x nan) → Within zero_activity (get_or activity y nan) → comes_first activity x y ≡ false
+  unfolding comes_first
+  none_first x y v w = lt_of_le w.sound v.sound (le_trans v.sound zero_within.sound w.sound v.small (zero_least w.sound))
 
 -- what the test says of a heap whose slices have one length
 module _ (h : Vsids) (heap_long : length h.heap ≡ length h.activity) (indices_long : length h.indices ≡ length h.activity) (e : untouched h.len h.activity h.heap h.indices ≡ true) where
@@ -71,7 +70,7 @@ module _ (h : Vsids) (heap_long : length h.heap ≡ length h.activity) (indices_
   stays i b (yes z) = top_stays (before h) i i h.heap (omega arith)
   stays i b (no f) =
       let b' : parent i < length h.activity = omega arith in
-      rises_by (before h) i i h.heap (omega arith) ∙ rw (own (parent i) b').0 (none_first h.activity i (parent i) (omega arith) (zero i b) (zero (parent i) b'))
+      rises_by (before h) i i h.heap (omega arith) ∙ rw (own (parent i) b').0 (none_first h.activity i (parent i) (zero i b) (zero (parent i) b'))
 
   place : (i : ℕ) → i < length h.activity → place_ok (length h.activity) h.len (before h) (places h) i ≡ true
   unfolding place_ok member_ok

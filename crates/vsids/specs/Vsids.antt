@@ -1,5 +1,5 @@
 -- The heap chooser (`VSIDS` of `decision.rs`): its memory as a record, and its operations on that.
-use Rattle.std.specs.Prelude.{ℕ, zero, suc, ◌+◌, ◌-◌, ◌/◌, Bool, ◌&&◌, not, cond, List, [], ◌∷◌, leb, eqb, Float, get_or, set, replicate, drop}
+use Rattle.std.specs.Prelude.{ℕ, zero, suc, ◌+◌, ◌-◌, Bool, ◌&&◌, not, cond, List, [], ◌∷◌, leb, eqb, Float, get_or, set, replicate, drop}
 use Rattle.std.specs.Float.{nan, binary64}
 use Rattle.std.specs.Float.Ieee.{add, lt}
 use Rattle.lit.specs.Numbers.{unassigned, switched_on, switched_off}
@@ -7,7 +7,7 @@ use Rattle.lit.specs.Lits.{index}
 use Rattle.activity.specs.declared.Step.{Step}
 use Rattle.activity.specs.Doubles.{zero_activity, limit}
 use Rattle.activity.specs.Step.{fresh_step, scale_all, scaled, decayed, with_decay}
-use Rattle.heap.specs.Heap.{comes_first, Places, places_of, in_heap, decrease, remove_min, heapify, build}
+use Rattle.heap.specs.Heap.{comes_first, Places, places_of, in_heap, decrease, remove_min, build}
 use Rattle.heap.specs.Heap as moves
 use Rattle.vsids.specs.declared.VsidsState.{VsidsState}
 use Rattle.vsids.specs.declared.Next.{Next}
@@ -76,20 +76,15 @@ abbrev pub found_of : List Float → List ℕ → List ℕ → List ℕ → Next
 found_of a h p d (Chose v s) = chose v (vsids_of a h p d s)
 found_of a h p d (Nothing s) = nothing (vsids_of a h p d s)
 
--- `bump_variable`: the step is added with one rounding; strictly above 1e100 all is scaled once, and the members are put in order afresh; then
--- a member moves up
+-- `bump_variable`: the step is added with one rounding; strictly above 1e100 all is scaled once; then a member moves up
 unfoldable pub add_step : ℕ → Vsids → Vsids
 add_step v h = with_scores (set h.activity v (add binary64 (get_or h.activity v nan) h.step.inc)) h.step h
 
 unfoldable pub scaled_all : Vsids → Vsids
 scaled_all h = with_scores (scale_all h.activity) (scaled h.step) h
 
--- scaling may have made activities equal: the moves of `build`, from the members as they stand
-unfoldable pub afresh : Vsids → Vsids
-afresh h = with_places h.len (heapify (before h) h.len (h.len / 2) (places h)) h
-
 unfoldable pub rescale : ℕ → Vsids → Vsids
-rescale v h = cond (lt limit (get_or h.activity v nan)) (afresh (scaled_all h)) h
+rescale v h = cond (lt limit (get_or h.activity v nan)) (scaled_all h) h
 
 unfoldable pub move_up : ℕ → Vsids → Vsids
 move_up v h = cond (in_heap h.indices v) (with_places h.len (decrease (before h) v (places h)) h) h

@@ -60,8 +60,8 @@ pub fn all_members(heap: &mut [u32], indices: &mut [u32]) -> VsidsState
     }
 }
 
-// A fresh chooser: activities 0, all variables members and switched on, the fresh step. Of equal activities the lower number comes first, so
-// members in the order of their numbers are a heap.
+// A fresh chooser: activities 0, all variables members and switched on, the fresh step. Where all activities are equal, members in
+// order of their numbers are a heap.
 pub fn new(
     activity: &mut [f64],
     heap: &mut [u32],
@@ -112,48 +112,22 @@ pub fn get_next(
     Next::Nothing(VsidsState { len, step })
 }
 
-// Scales every activity and the step. That may make activities equal, so the members are put in order afresh, as they stand.
-fn scale_down(
-    activity: &mut [f64],
-    heap: &mut [u32],
-    indices: &mut [u32],
-    s: VsidsState,
-) -> VsidsState
-    requires { Room (length activity.old) s.len (places_of heap.old indices.old) }
-    ensures { (d : List ℕ) → let before = vsids_of activity.old heap.old indices.old d s
-        in let after = vsids_of activity.new heap.new indices.new d result
-        in after ≡ spec.afresh (spec.scaled_all before) }
+// Adds the step to the activity of var with one rounding, and hands the step back. Strictly above 1e100 every activity and the step are scaled.
+fn add_step(activity: &mut [f64], step: Step, var: u32) -> Step
+    requires { var < length activity.old }
+    ensures { (k : ℕ) (h p d : List ℕ) → vsids_of activity.new h p d (record { len = k; step = result })
+        ≡ spec.rescale var (spec.add_step var (vsids_of activity.old h p d (record { len = k; step = step }))) }
 {
-    let len = s.len;
-    activity::scale_all(activity);
-    let step = s.step.scaled();
-    heap::members::heapify(activity, heap, indices, len as usize);
-    VsidsState { len, step }
-}
-
-// Adds the step to the activity of var with one rounding. Strictly above 1e100 all is scaled.
-fn add_step(
-    activity: &mut [f64],
-    heap: &mut [u32],
-    indices: &mut [u32],
-    s: VsidsState,
-    var: u32,
-) -> VsidsState
-    requires room { Room (length activity.old) s.len (places_of heap.old indices.old) }
-    requires var_in_bounds { var < length activity.old }
-    ensures { (d : List ℕ) → let before = vsids_of activity.old heap.old indices.old d s
-        in let after = vsids_of activity.new heap.new indices.new d result
-        in after ≡ spec.rescale var (spec.add_step var before) }
-{
-    let sum = activity[var as usize] + s.step.inc;
-    activity[var as usize] = sum;
-    if sum > LIMIT {
-        return scale_down(activity, heap, indices, s);
+    let inc = step.inc;
+    activity[var as usize] = activity[var as usize] + inc;
+    if activity[var as usize] > LIMIT {
+        activity::scale_all(activity);
+        return step.scaled();
     }
-    s
+    step
 }
 
-// Raises the activity of var by the step, with all scaled and in order afresh where it is too high, and moves var up if it is a member.
+// Raises the activity of var by the step, and moves var up if it is a member.
 pub fn bump_variable(
     activity: &mut [f64],
     heap: &mut [u32],
@@ -168,11 +142,12 @@ pub fn bump_variable(
         in let after = vsids_of activity.new heap.new indices.new d result
         in after ≡ spec.bump_variable var before }
 {
-    let state = add_step(activity, heap, indices, s, var);
+    let len = s.len;
+    let step = add_step(activity, s.step, var);
     if heap::members::in_heap(indices, var) {
         heap::members::decrease(activity, heap, indices, var);
     }
-    state
+    VsidsState { len, step }
 }
 
 // Bumps the variable of each literal of a reason clause but the first, in order.

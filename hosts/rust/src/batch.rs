@@ -21,7 +21,7 @@ use crate::{
 /// session.batch(&mut batch)?;
 /// assert_eq!(batch.answer(enqueued), Ok(None));
 /// assert_eq!(batch.answer(wrong), Err(sigvort::Refusal::Variable));
-/// assert_eq!(batch.answer(decided), Ok(Some(1)));
+/// assert_eq!(batch.answer(decided), Ok(Some(2)));
 ///
 /// batch.clear();
 /// let back = batch.go_back(0);

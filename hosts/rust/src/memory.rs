@@ -53,8 +53,7 @@ pub struct HeapMemory<'a> {
     pub opened: &'a mut [u32],
     /// The activity of each variable.
     pub activity: &'a mut [f64],
-    /// The members, in heap order: none at a place i above 0 comes before the one at (i − 1) / 2. A variable comes before another where its activity is
-    /// greater, or equal and its number lower.
+    /// The members, in heap order.
     pub heap: &'a mut [u32],
     /// The place of each variable in `heap`, or [`NONE`](crate::NONE).
     pub indices: &'a mut [u32],

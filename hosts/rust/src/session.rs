@@ -12,7 +12,7 @@ use crate::{
 /// How a session chooses.
 #[derive(Clone, Copy, Debug, PartialEq, Eq, Hash)]
 pub enum Mode {
-    /// By activity, from a heap (VSIDS); of equal activities the lower number comes first.
+    /// By activity, from a heap (VSIDS).
     Heap,
     /// By a list in which what was used last moves to the front (VMTF).
     List,
@@ -265,8 +265,7 @@ impl<'a> Session<'a> {
 /// The calls. Beside the refusals named with each, a call gets [`Refusal::Clauses`] or [`Refusal::State`] for a clause list that was changed so that it
 /// does not fit.
 impl Session<'_> {
-    /// Adds the step to the variable's activity. Above 1e100 all activities and the step are scaled, and the members put in order afresh. In list mode this does
-    /// nothing. Refused with [`Refusal::Variable`].
+    /// Adds the step to the variable's activity. In list mode this does nothing. Refused with [`Refusal::Variable`].
     pub fn bump(&mut self, var: u32) -> Result<(), Refusal> {
         self.done(call::bump(var))
     }
@@ -291,9 +290,8 @@ impl Session<'_> {
         self.done(call::switch_off(var))
     }
 
-    /// Chooses an open variable, opens a level and gives the variable its value there. In heap mode it is the one with the greatest activity, and of equal
-    /// activities the one with the lowest number: activities, switches and values alone decide. Refused in list mode with [`Refusal::Stuck`], where it says
-    /// what a caller can do then.
+    /// Chooses an open variable, opens a level and gives the variable its value there. Refused in list mode with [`Refusal::Stuck`], where it
+    /// says what a caller can do then.
     pub fn decide(&mut self, polarity: bool) -> Result<Decision, Refusal> {
         self.one(&[], call::decide(polarity)).map(Decision::from)
     }

@@ -90,7 +90,7 @@ fn the_worked_sheet() {
     assert_eq!(session.decide(true), Ok(Decision::Variable(2)));
     assert_eq!(session.decide(false), Ok(Decision::Variable(0)));
     assert_eq!(session.go_back(1), Ok(1));
-    assert_eq!(session.decide(false), Ok(Decision::Variable(0)));
+    assert_eq!(session.decide(false), Ok(Decision::Variable(1)));
     assert_eq!(session.go_back(0), Ok(2));
 }
 
@@ -284,7 +284,7 @@ fn another_clause_list_is_lent() {
     session.lend(Clauses::from_parts(&codes, &ends));
     assert_eq!(session.decide(true), Err(Refusal::Clauses));
     session.lend(former);
-    assert_eq!(session.decide(true), Ok(Decision::Variable(1)));
+    assert_eq!(session.decide(true), Ok(Decision::Variable(2)));
 }
 
 #[test]

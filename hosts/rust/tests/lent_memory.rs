@@ -95,12 +95,12 @@ impl ListArrays {
     }
 }
 
-/// Arrays and small states in which a heap session of three variables has decided 0 and then 1.
+/// Arrays and small states in which a heap session of three variables has decided 0 and then 2.
 fn heap_in_use() -> (HeapArrays, HeapState) {
     let mut arrays = HeapArrays::new(3);
     let mut session = Session::heap_in(3, Clauses::new(), arrays.lend(HeapState::default())).unwrap();
     assert_eq!(session.decide(true), Ok(Decision::Variable(0)));
-    assert_eq!(session.decide(false), Ok(Decision::Variable(1)));
+    assert_eq!(session.decide(false), Ok(Decision::Variable(2)));
     let state = session.heap_state().unwrap();
     (arrays, state)
 }
@@ -119,14 +119,14 @@ fn list_in_use() -> (ListArrays, ListState) {
 fn a_heap_session_stands_in_the_arrays() {
     let (arrays, state) = heap_in_use();
     let expected = HeapArrays {
-        values: vec![1, 0, 2],
-        levels: vec![1, 2, NONE],
+        values: vec![1, 2, 0],
+        levels: vec![1, NONE, 2],
         reasons: vec![NONE; 3],
-        trail: vec![1, 2, NONE],
+        trail: vec![1, 4, NONE],
         opened: vec![0, 1, NONE],
         activity: vec![0.0; 3],
-        heap: vec![2, NONE, NONE],
-        indices: vec![NONE, NONE, 0],
+        heap: vec![1, NONE, NONE],
+        indices: vec![NONE, 0, NONE],
         decision: vec![1; 3],
     };
     assert_eq!(arrays, expected);
@@ -154,8 +154,8 @@ fn a_list_session_stands_in_the_arrays() {
 fn a_heap_session_carries_on() {
     let (mut arrays, state) = heap_in_use();
     let mut session = Session::heap_from(3, Clauses::new(), arrays.lend(state)).unwrap();
-    assert_eq!(session.trail(), [pos(0), !pos(1)]);
-    assert_eq!(session.decide(true), Ok(Decision::Variable(2)));
+    assert_eq!(session.trail(), [pos(0), !pos(2)]);
+    assert_eq!(session.decide(true), Ok(Decision::Variable(1)));
     assert_eq!(session.go_back(0), Ok(3));
     assert_eq!(arrays.values, [2; 3]);
 }
@@ -189,9 +189,9 @@ fn a_clone_leaves_the_lent_arrays_alone() {
     let before = arrays.clone();
     let session = Session::heap_from(3, Clauses::new(), arrays.lend(state)).unwrap();
     let mut clone = session.clone();
-    assert_eq!(clone.decide(true), Ok(Decision::Variable(2)));
+    assert_eq!(clone.decide(true), Ok(Decision::Variable(1)));
     assert_eq!(clone.go_back(0), Ok(3));
-    assert_eq!(session.trail(), [pos(0), !pos(1)]);
+    assert_eq!(session.trail(), [pos(0), !pos(2)]);
     assert_eq!(session.heap_state(), Some(state));
     assert_eq!(arrays, before);
 
@@ -224,13 +224,13 @@ fn each_broken_fact_of_a_heap_session_is_found() {
     let breaks: [Break; 13] = [
         |arrays, _| arrays.values[1] = 3,
         |arrays, _| arrays.values[0] = 0,
-        |arrays, _| arrays.levels[1] = 1,
+        |arrays, _| arrays.levels[2] = 1,
         |arrays, _| arrays.reasons[0] = 0,
         |arrays, _| arrays.trail[2] = 0,
         |arrays, _| arrays.opened[1] = 0,
         |arrays, _| arrays.activity[1] = f64::NAN,
         |arrays, _| arrays.heap[1] = 0,
-        |arrays, _| arrays.indices[2] = NONE,
+        |arrays, _| arrays.indices[1] = NONE,
         |arrays, _| arrays.decision[1] = 2,
         |_, state| state.len = 4,
         |_, state| state.members = u32::MAX,
@@ -335,8 +335,8 @@ fn a_heap_session_is_read_into_the_arrays() {
         trail: vec![1, 4, NONE],
         opened: vec![0, NONE, NONE],
         activity: vec![0.0; 3],
-        heap: vec![1, 2, NONE],
-        indices: vec![NONE, 0, 1],
+        heap: vec![2, 1, NONE],
+        indices: vec![NONE, 1, 0],
         decision: vec![1; 3],
     };
     assert_eq!((arrays, codes, ends), (expected, [1, 3, 4], [2, 3]));

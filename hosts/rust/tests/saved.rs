@@ -235,13 +235,6 @@ fn more_than_the_limits_are_refused() {
 }
 
 #[test]
-fn of_equal_activities_the_lower_number_stands_above() {
-    let fresh = "n|2|vsids t l r q|0 h|0|1 a|0000000000000000|0000000000000000 o|1|1 w|3ff0000000000000|3fee666666666666";
-    assert_eq!(Session::heap(2).unwrap().save(), Ok(text(fresh)));
-    check_refused(Refusal::State, fresh, "h|0|1", "h|1|0");
-}
-
-#[test]
 fn a_state_that_is_not_good_is_refused() {
     for (old, new) in [("t|1", "t|4"), ("l|1", "l|2"), ("r|-", "r|1"), ("q|0", "q|2"), ("h|1", "h"), ("w|3ff", "w|bff")] {
         check_refused(Refusal::State, HEAP, old, new);

@@ -187,32 +187,16 @@ const HEAP: &[Breaker<HeapMemory>] = &[
         let place = place + rng.below(h.heap.len() - place);
         set(&mut h.heap, place, rng.pick(&[0, place as u32, NONE - 1]))
     }),
-    ("a child just above its parent", ORDER, |h, _, rng| {
+    ("a child just above its parent", "a parent's activity is no lower", |h, _, rng| {
         let (place, var) = member(h, rng).filter(|&(place, _)| place > 0)?;
         let parent = h.activity[h.heap[(place - 1) / 2] as usize];
         set(&mut h.activity, var, Some(parent.next_up()).filter(|&above| above <= 1e101)?)
     }),
-    ("a parent just below its child", ORDER, |h, _, rng| {
+    ("a parent just below its child", "a parent's activity is no lower", |h, _, rng| {
         let (place, var) = member(h, rng).filter(|&(place, _)| place > 0)?;
         let child = Some(h.activity[var]).filter(|&child| child > 0.0)?;
         let parent = h.heap[(place - 1) / 2] as usize;
         set(&mut h.activity, parent, child.next_down())
-    }),
-    ("a parent and its child of equal activity in each other's places", ORDER, |h, _, rng| {
-        let (place, child, parent) = below_parent(h, rng, |child, parent| h.activity[child] == h.activity[parent])?;
-        h.heap.swap(place, (place - 1) / 2);
-        h.indices.swap(child, parent);
-        Some(())
-    }),
-    ("a child of lower number raised to its parent's activity", ORDER, |h, _, rng| {
-        let (_, child, parent) = below_parent(h, rng, |child, parent| child < parent)?;
-        let activity = h.activity[parent];
-        set(&mut h.activity, child, activity)
-    }),
-    ("a parent of greater number lowered to its child's activity", ORDER, |h, _, rng| {
-        let (_, child, parent) = below_parent(h, rng, |child, parent| child < parent)?;
-        let activity = h.activity[child];
-        set(&mut h.activity, parent, activity)
     }),
     ("an activity with a sign", ACTIVITY, |h, lent, rng| {
         let var = any(lent.n, rng)?;
@@ -252,7 +236,6 @@ const HEAP: &[Breaker<HeapMemory>] = &[
 
 const PLACE: &str = "a member's position is its place";
 const POSITION: &str = "a position that is not NONE is the variable's place";
-const ORDER: &str = "no member comes before its parent";
 const ACTIVITY: &str = "activities have no sign and are at most 1e101";
 const STEP: &str = "the step has no sign and is at most 1e200";
 const DECAY: &str = "the decay is from 0.5 to 1";
@@ -425,13 +408,6 @@ fn relevel(t: &mut TrailMemory) -> Option<()> {
 fn member(h: &HeapMemory, rng: &mut Rng) -> Option<(usize, usize)> {
     let place = any(h.members as usize, rng)?;
     Some((place, h.heap[place] as usize))
-}
-
-/// A place of the heap below another, with its member and that one's parent, for which a test holds.
-fn below_parent(h: &HeapMemory, rng: &mut Rng, test: impl Fn(usize, usize) -> bool) -> Option<(usize, usize, usize)> {
-    let pair = |place: usize| (h.heap[place] as usize, h.heap[(place - 1) / 2] as usize);
-    let place = pick(h.members as usize, rng, |place| place > 0 && test(pair(place).0, pair(place).1))?;
-    Some((place, pair(place).0, pair(place).1))
 }
 
 fn no_member(h: &HeapMemory, rng: &mut Rng) -> Option<usize> {

@@ -21,7 +21,7 @@ use proved::Proved;
 use random::Good;
 use reference::{
     generator::Rng,
-    native::{read_call, Clauses, HeapMemory, Lent, ListMemory, CALL_WORDS},
+    native::{Clauses, HeapMemory, Lent, ListMemory},
 };
 use std::{env, process::ExitCode};
 use tally::Tally;
@@ -84,24 +84,7 @@ impl<M: Mode> Round<'_, M> {
                     if before.memory.went_over_limit(&after.memory) {
                         *self.tally.over_limit.entry(M::NAME).or_default() += 1;
                     }
-                    if !M::TO_MEET.is_empty() {
-                        self.count_met(before, list);
-                    }
                 }
-            }
-        }
-    }
-
-    /// Does the calls of a list once more, one by one, and counts what they meet.
-    fn count_met(&mut self, before: &Request<M>, list: &List) {
-        let formula = before.clauses.formula(before.n as usize).expect("the list is accepted");
-        let (mut session, mut memory, mut group) = (before.memory.session(formula), before.memory.clone(), Vec::new());
-        for words in list.calls.chunks_exact(CALL_WORDS) {
-            let Ok(call) = read_call([words[0], words[1], words[2]], &list.vars, &mut group) else { continue };
-            if session.call(call).is_ok() {
-                let after = M::of(&session);
-                memory.met(call, &after).into_iter().for_each(|what| *self.tally.met.entry(what).or_default() += 1);
-                memory = after;
             }
         }
     }

@@ -2,9 +2,8 @@
 
 use crate::memory::Parts;
 use reference::{
-    generator::{met, Rng, TO_MEET},
+    generator::Rng,
     native::{Clauses, HeapMemory, ListMemory, TrailMemory, NONE},
-    session::Call,
 };
 
 pub const MAX_VARIABLES: usize = 2048;
@@ -123,9 +122,6 @@ fn good_trail(n: usize, clauses: usize, rng: &mut Rng) -> TrailMemory {
 
 /// Memory that can be made good in any way.
 pub trait Good: Parts {
-    /// What calls have to meet in this mode.
-    const TO_MEET: &'static [&'static str] = &[];
-
     /// A good state, which fresh sessions and calls need not lead to.
     fn good(n: usize, clauses: usize, rng: &mut Rng) -> Self;
 
@@ -134,11 +130,6 @@ pub trait Good: Parts {
 
     /// Whether the way from one state to another went over such a limit.
     fn went_over_limit(&self, after: &Self) -> bool;
-
-    /// What an accepted call met that has led from one state to another.
-    fn met(&self, _call: Call<'_>, _after: &Self) -> Vec<&'static str> {
-        Vec::new()
-    }
 }
 
 fn double(rng: &mut Rng) -> f64 {
@@ -151,8 +142,6 @@ fn double(rng: &mut Rng) -> f64 {
 }
 
 impl Good for HeapMemory {
-    const TO_MEET: &'static [&'static str] = TO_MEET;
-
     fn good(n: usize, clauses: usize, rng: &mut Rng) -> Self {
         let mut memory = HeapMemory {
             trail: good_trail(n, clauses, rng),
@@ -167,67 +156,41 @@ impl Good for HeapMemory {
         for var in shuffled(n, rng) {
             let is_open = memory.decision[var] == 1 && !memory.trail.is_assigned(var);
             if is_open || rng.chance(1, 2) {
-                memory.heap[memory.members as usize] = var as u32;
-                memory.members += 1;
+                push(&mut memory, var);
             }
         }
-        arrange(&mut memory);
+        for place in 0..memory.members {
+            let var = memory.heap[place as usize];
+            memory.indices[var as usize] = place;
+        }
         memory
     }
 
     fn bring_near_limit(&mut self, rng: &mut Rng) {
         let greatest = self.activity.iter().copied().fold(0.0, f64::max);
-        self.inc = rng.pick(&[1e200, 1e200_f64.next_down(), 0.9e200, 1e100, 1e99, 1e84, 1.0, 0.0, 5e-324, 1e-310]);
-        self.decay = rng.pick(&[0.5, 0.5_f64.next_up(), 0.75, 0.95, 1.0_f64.next_down(), 1.0]);
-        match rng.below(5) {
+        match rng.below(4) {
             0 if greatest > 1e-100 => self.activity.iter_mut().for_each(|activity| *activity *= 1e100 / greatest),
             1 => self.activity.fill(rng.pick(&[1e100, 1e101, 1e100_f64.next_down(), 1e100_f64.next_up(), 5e-324])),
-            2 => {
-                // a bump leads from the lower to the higher, and all are equal
-                let [low, high] = made_equal(rng);
-                self.activity.iter_mut().for_each(|activity| *activity = rng.pick(&[low, high]));
-                self.inc = high - low;
-            }
             _ => {}
         }
-        arrange(self);
+        self.inc = rng.pick(&[1e200, 1e200_f64.next_down(), 0.9e200, 1e100, 1e99, 1e84, 1.0, 0.0, 5e-324, 1e-310]);
+        self.decay = rng.pick(&[0.5, 0.5_f64.next_up(), 0.75, 0.95, 1.0_f64.next_down(), 1.0]);
     }
 
     fn went_over_limit(&self, after: &Self) -> bool {
         after.inc < self.inc
     }
-
-    fn met(&self, call: Call<'_>, after: &Self) -> Vec<&'static str> {
-        met(self, call, after)
-    }
 }
 
-/// Two neighbours above 1e100 that a scaling makes equal.
-fn made_equal(rng: &mut Rng) -> [f64; 2] {
-    loop {
-        let low = f64::from_bits(1e100_f64.next_up().to_bits() + rng.below(1 << 50) as u64);
-        let high = low.next_up();
-        if low * 1e-100 == high * 1e-100 {
-            return [low, high];
-        }
-    }
-}
-
-/// Lets each member rise above those before it, and sets the positions.
-fn arrange(memory: &mut HeapMemory) {
-    let HeapMemory { activity, heap, indices, members, .. } = memory;
-    let comes_first = |x: u32, y: u32| {
-        let (of_x, of_y) = (activity[x as usize], activity[y as usize]);
-        of_x > of_y || of_x == of_y && x < y
-    };
-    for mut place in 0..*members as usize {
-        while place > 0 && comes_first(heap[place], heap[(place - 1) / 2]) {
-            heap.swap(place, (place - 1) / 2);
-            place = (place - 1) / 2;
-        }
-    }
-    for place in 0..*members {
-        indices[heap[place as usize] as usize] = place;
+/// Adds a member below the others and lets it rise; positions are set later.
+fn push(memory: &mut HeapMemory, var: usize) {
+    let HeapMemory { activity, heap, members, .. } = memory;
+    let mut place = *members as usize;
+    heap[place] = var as u32;
+    *members += 1;
+    while place > 0 && activity[heap[place] as usize] > activity[heap[(place - 1) / 2] as usize] {
+        heap.swap(place, (place - 1) / 2);
+        place = (place - 1) / 2;
     }
 }
 

@@ -1,8 +1,5 @@
 use crate::memory::List;
-use reference::{
-    generator::TO_MEET,
-    native::{ANSWER_WORDS, CALL_WORDS, MAX_GROUP},
-};
+use reference::native::{ANSWER_WORDS, CALL_WORDS, MAX_GROUP};
 use std::{collections::BTreeMap, fmt};
 
 const STATUSES: usize = 15;
@@ -23,8 +20,6 @@ pub struct Tally {
     pub at_once: BTreeMap<String, u64>,
     /// Lists on which activities were scaled or stamps begun anew.
     pub over_limit: BTreeMap<&'static str, u64>,
-    /// How often calls met what they have to.
-    pub met: BTreeMap<&'static str, u64>,
     /// How often each fault and each breaker was tried.
     pub faults: BTreeMap<String, u64>,
     pub breakers: BTreeMap<String, u64>,
@@ -86,9 +81,6 @@ impl Tally {
         for mode in modes {
             need(self.over_limit.contains_key(mode), format!("{mode} over its limit"));
         }
-        for what in TO_MEET {
-            need(self.met.contains_key(what), what.to_string());
-        }
         for fault in faults {
             need(self.faults.contains_key(fault), format!("fault {fault}"));
         }
@@ -118,8 +110,6 @@ impl fmt::Display for Tally {
         writeln!(f, "calls by status:{}; {longest} groups of {MAX_GROUP} and {longer} of one more", statuses(&self.calls))?;
         let limits: Vec<String> = self.over_limit.iter().map(|(mode, count)| format!("{count} in {mode} mode")).collect();
         writeln!(f, "lists over a scaling or over the end of the stamps: {}", limits.join(", "))?;
-        let met: Vec<String> = self.met.iter().map(|(what, times)| format!("{what}, {times} times")).collect();
-        writeln!(f, "calls met {}", met.join("; "))?;
         let (faults, tried, sets) = (self.faults.len(), self.faults.values().sum::<u64>(), self.at_once.len());
         writeln!(
             f,

@@ -17,13 +17,11 @@ pub struct VSIDS {
 }
 
 impl VSIDS {
-    /// Scales all activities and the step. Activities may be equal now that were not, so the members are put in order afresh.
     fn rescale(&mut self) {
         for activity in &mut self.order_heap.activity {
             *activity *= RESCALE_BY;
         }
         self.var_inc *= RESCALE_BY;
-        self.order_heap.build();
     }
 }
 
@@ -114,53 +112,6 @@ mod tests {
         vsids.bump_variable(0);
         assert_eq!(vsids.order_heap.activity, [1e200 * 1e-100, 1e100 * 1e-100]);
         assert_eq!(vsids.var_inc, 1e200 * 1e-100);
-    }
-
-    /// Before the scaling 1 stands above 0; behind it both have activity 0, and 0 comes first.
-    fn about_to_be_equal() -> VSIDS {
-        let mut vsids = fresh(3);
-        vsids.order_heap.activity = vec![1e-300, 2e-300, 0.0];
-        vsids.order_heap.build();
-        assert_eq!(vsids.order_heap.heap, [1, 0, 2]);
-        vsids.var_inc = 1e101;
-        vsids
-    }
-
-    #[test]
-    fn a_scaling_puts_the_members_in_order_afresh() {
-        let mut vsids = fresh(4);
-        vsids.order_heap.activity = vec![1e-300, 2e-300, 0.0, 0.0];
-        vsids.order_heap.build();
-        assert_eq!(vsids.order_heap.heap, [1, 0, 2, 3]);
-        vsids.var_inc = 1e101;
-        vsids.bump_variable(3);
-        assert_eq!(vsids.order_heap.activity, [0.0, 0.0, 0.0, 1e101 * 1e-100]);
-        // moved up alone, 3 would leave 1 above 0
-        assert_eq!((vsids.order_heap.heap, vsids.order_heap.indices), (vec![3, 0, 2, 1], vec![1, 3, 2, 0]));
-    }
-
-    #[test]
-    fn a_scaling_does_so_where_the_bumped_variable_is_no_member() {
-        let mut vsids = about_to_be_equal();
-        assert_eq!(vsids.order_heap.remove_min(), Some(1));
-        vsids.order_heap.activity[2] = 3e-300;
-        vsids.order_heap.decrease(2);
-        assert_eq!(vsids.order_heap.heap, [2, 0]);
-        vsids.bump_variable(1);
-        assert_eq!((vsids.order_heap.heap, vsids.order_heap.indices), (vec![0, 2], vec![0, INVALID, 1]));
-    }
-
-    #[test]
-    fn a_scaling_does_so_before_the_bumped_variable_moves_up() {
-        // two neighbours that a scaling makes equal
-        let low = (1..).map(|step| f64::from_bits(1e100_f64.to_bits() + step)).find(|low| low * 1e-100 == low.next_up() * 1e-100).unwrap();
-        let mut vsids = fresh(3);
-        vsids.order_heap.activity = vec![low, low, low.next_up()];
-        (vsids.order_heap.heap, vsids.order_heap.indices) = (vec![2, 1, 0], vec![2, 1, 0]);
-        vsids.var_inc = low.next_up() - low;
-        vsids.bump_variable(1);
-        // 0 takes the place of 2, and 1 stays where it was
-        assert_eq!((vsids.order_heap.heap, vsids.order_heap.indices), (vec![0, 1, 2], vec![0, 1, 2]));
     }
 
     #[test]

@@ -10,7 +10,6 @@ mod fields;
 mod forms;
 mod judge;
 mod lent;
-mod old;
 mod sessions;
 mod sheets;
 mod sizes;
@@ -38,7 +37,6 @@ mod random;
 use forms::FORMS;
 use guarded::Guards;
 use judge::{differ, Difference, Judge, Outcome};
-use old::{Old, OLD};
 use reference::{
     generator::{saved_examples, Rng},
     native::{HeapMemory, ListMemory},
@@ -96,23 +94,9 @@ fn limits(judge: &mut Judge) -> Outcome<()> {
     Ok(())
 }
 
-/// Texts of an earlier release, read and gone on with.
-fn old(judge: &mut Judge) -> Outcome<()> {
-    for Old { lines, text, status } in OLD {
-        let (name, text) = (format!("an old text behind {lines} lines"), text.as_bytes());
-        judge.must_get::<HeapMemory>(status, &name, text)?;
-        let (returned, _) = judge.run_on(text, b"g\t1\n", [24, 500])?;
-        if returned != if status == 0 { 6 } else { u32::MAX - status } {
-            return differ(format!("{name}: going on, both returned {returned}"), text);
-        }
-    }
-    Ok(())
-}
-
 fn compare(root: &Path, rounds: u64, seed: u64, judge: &mut Judge) -> Outcome<()> {
     examples(root, judge)?;
     limits(judge)?;
-    old(judge)?;
     sheets::refusals(judge)?;
     sheets::at_limits(judge)?;
     sessions::at_limits::<HeapMemory>(judge)?;

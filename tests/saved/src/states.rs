@@ -17,7 +17,6 @@ const MEMBERS: &str = "members are below N";
 const MEMBER_ONCE: &str = "no member is there twice";
 const OPEN: &str = "each variable that is on and not on the trail is a member";
 const ORDER: &str = "a member's activity is not above its parent's";
-const TIE: &str = "a member with its parent's activity has the greater number";
 const ACTIVITY_SIGN: &str = "activities have no sign bit";
 const ACTIVITY_NAN: &str = "activities are no NaN";
 const ACTIVITY_LIMIT: &str = "activities are at most 1e101";
@@ -114,22 +113,13 @@ pub const STATES: &[State] = &[
         Some(())
     }),
     (ORDER, |text, rng| {
-        let (_, child, parent) = below_parent(text, rng, |_, _, _| true)?;
+        let members = text.line('h')?.clone();
+        let place = 1 + rng.below(members.len().checked_sub(1).filter(|&children| children > 0)?);
+        let (child, parent) = (number(&members[place]) as usize, number(&members[(place - 1) / 2]) as usize);
         let activity = text.line('a')?;
         let above = double(&activity[parent]).next_up();
         activity[child] = bits(above);
         Some(()).filter(|()| above <= 1e101)
-    }),
-    (TIE, |text, rng| {
-        let (place, ..) = below_parent(text, rng, |activity, child, parent| activity[child] == activity[parent])?;
-        text.line('h')?.swap(place, (place - 1) / 2);
-        Some(())
-    }),
-    (TIE, |text, rng| {
-        let (_, child, parent) = below_parent(text, rng, |_, child, parent| child < parent)?;
-        let activity = text.line('a')?;
-        activity[child] = activity[parent].clone();
-        Some(())
     }),
     (ACTIVITY_SIGN, |text, rng| set_some(text, 'a', bits(rng.pick(&[-0.0, -5e-324, -1.0, -1e101])), rng)),
     (ACTIVITY_NAN, |text, rng| set_some(text, 'a', rng.pick(&["7ff8000000000000", "7ff0000000000001", "7fffffffffffffff"]).into(), rng)),
@@ -182,15 +172,6 @@ pub const STATES: &[State] = &[
         set(text, 'f', 0, rng.pick(&[n, n + 1, u64::from(u32::MAX) - 1]).to_string())
     }),
 ];
-
-/// A place on line h below another, with its member and that one's parent, for which a test on line a holds.
-fn below_parent(text: &mut Fields, rng: &mut Rng, test: impl Fn(&[String], usize, usize) -> bool) -> Option<(usize, usize, usize)> {
-    let (members, activity) = (text.line('h')?.clone(), text.line('a')?);
-    let member = |place: usize| number(&members[place]) as usize;
-    let pairs = (1..members.len()).map(|place| (place, member(place), member((place - 1) / 2)));
-    let due: Vec<_> = pairs.filter(|&(_, child, parent)| test(activity, child, parent)).collect();
-    due.get(rng.below(due.len())).copied()
-}
 
 fn set(text: &mut Fields, letter: char, place: usize, field: String) -> Option<()> {
     *text.line(letter)?.get_mut(place)? = field;

@@ -255,15 +255,6 @@ impl Sheets {
             format!("{mode}, scaled many times"),
             heading(9, mode) + "c\t0\t6\t8\t8\ne\t0\t0\nb\t3\nb\t5\nb\t5\n" + &again + &drain(9),
         );
-        // the activities rise with the numbers, then all are 0; the bumped variable is a member or is not
-        for (num_vars, first) in [(9, ""), (9, "g\t1\n"), (300, ""), (300, "g\t1\n")] {
-            let rising: String = (1..num_vars).map(|var| format!("b\t{var}\ny\n")).collect();
-            let fading = (halves(335) + "b\t0\n").repeat(6);
-            self.add(
-                format!("{mode}, {num_vars} faded behind {first:?}"),
-                heading(num_vars, mode) + first + &rising + &fading + "k\t0\n" + &drain(num_vars),
-            );
-        }
         let by_default = "y\n".repeat(9000);
         self.add(format!("{mode}, the fresh decay to its end"), heading(2, mode) + &by_default + "b\t1\ny\ny\nb\t0\n" + &drain(2));
     }

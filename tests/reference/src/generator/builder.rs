@@ -118,11 +118,7 @@ impl<'a> Builder<'a> {
             Act::GoBack => format!("k\t{}", self.level(wild)),
             Act::BumpReason => format!("r\t{}", self.variable(wild)),
             Act::Group => self.group(wild),
-            Act::Swell => {
-                let decays = self.rng.pick(&[20, 330, 340, 700]);
-                return self.swell(decays);
-            }
-            Act::Fade => return self.fade(wild),
+            Act::Swell => return self.swell(),
             Act::Drain => return self.drain(),
             Act::Dive => return self.dive(wild),
             Act::Nonsense => self.rng.pick(&NONSENSE).into(),
@@ -130,21 +126,11 @@ impl<'a> Builder<'a> {
         let _ = self.call(line);
     }
 
-    fn swell(&mut self, decays: usize) {
+    fn swell(&mut self) {
         let _ = self.call(format!("w\t{HALF}"));
-        for _ in 0..decays {
+        for _ in 0..self.rng.pick(&[20, 330, 340, 700]) {
             if self.sheet.len() >= MAX_SHEET || self.call("y".into()).is_err() {
                 break;
-            }
-        }
-    }
-
-    fn fade(&mut self, wild: usize) {
-        for _ in 0..4 + self.rng.below(3) {
-            self.swell(335);
-            for _ in 0..1 + self.rng.below(4) {
-                let act = self.rng.pick(&[Act::Bump, Act::Bump, Act::BumpReason]);
-                self.act(act, wild);
             }
         }
     }

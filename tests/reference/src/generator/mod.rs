@@ -4,7 +4,6 @@ mod boundary;
 mod builder;
 mod damage;
 mod examples;
-mod met;
 mod profile;
 mod rng;
 #[cfg(test)]
@@ -12,7 +11,6 @@ mod tests;
 
 pub use boundary::{named, Named};
 pub use examples::{all_examples, examples, saved_examples, Example};
-pub use met::{met, TO_MEET};
 
 use crate::sheet::{Mode, MAX_VARIABLES};
 use builder::Builder;

@@ -16,8 +16,6 @@ pub enum Act {
     Group,
     /// Decays by halves until the step is large, so that the next bumps scale.
     Swell,
-    /// Scales again and again, so that the activities before it are 0 at the end.
-    Fade,
     /// Decides until nothing is left: the whole order of the chooser shows.
     Drain,
     /// Opens many levels, with assignments between them.
@@ -49,10 +47,10 @@ const BALANCED: &Weights = &[
 const DEEP: &Weights = &[(Dive, 2), (Decide, 20), (Enqueue, 20), (GoBack, 3), (Bump, 10), (Group, 4), (BumpReason, 4)];
 const BOUNCING: &Weights = &[(Decide, 20), (GoBack, 20), (Enqueue, 5), (LearnUnit, 2), (Bump, 5), (Group, 3), (Drain, 1)];
 const PRESSING: &Weights = &[(Bump, 40), (Decay, 20), (SetDecay, 2), (Decide, 10), (GoBack, 6), (Drain, 1)];
-const SCALING: &Weights = &[(Swell, 2), (Fade, 2), (Bump, 40), (Decay, 10), (SetDecay, 4), (Decide, 10), (GoBack, 5), (Drain, 1)];
+const SCALING: &Weights = &[(Swell, 2), (Bump, 40), (Decay, 10), (SetDecay, 4), (Decide, 10), (GoBack, 5), (Drain, 1)];
 const GROUPS: &Weights = &[(Group, 30), (Decide, 15), (GoBack, 5), (LearnUnit, 1), (Drain, 1), (Enqueue, 4)];
 const SWITCHING: &Weights = &[(SwitchOff, 10), (Insert, 10), (Decide, 20), (GoBack, 10), (Bump, 10), (Drain, 1)];
-const REASONS: &Weights = &[(Enqueue, 30), (BumpReason, 30), (Decide, 10), (GoBack, 8), (Decay, 6), (Drain, 1), (Swell, 1), (Fade, 1)];
+const REASONS: &Weights = &[(Enqueue, 30), (BumpReason, 30), (Decide, 10), (GoBack, 8), (Decay, 6), (Drain, 1), (Swell, 1)];
 const UNITS: &Weights = &[(LearnUnit, 10), (Decide, 15), (Enqueue, 10), (Bump, 8), (Group, 4), (Drain, 1)];
 const PROFILES: [&Weights; 9] = [BALANCED, DEEP, BOUNCING, PRESSING, SCALING, GROUPS, SWITCHING, REASONS, UNITS];
 

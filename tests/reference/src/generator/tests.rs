@@ -1,14 +1,10 @@
 use super::*;
 use crate::{
-    formula::Formula,
-    native::{HeapMemory, Memory},
     run,
     saved::{carry_on, run_new},
-    session::Session,
-    sheet::{parse_call, parse_clause, parse_heading},
     ANSWER_ROOM,
 };
-use std::collections::{BTreeMap, BTreeSet};
+use std::collections::BTreeSet;
 
 /// The statuses that a sheet's answers hold, 1 and 2 for a refused sheet.
 fn statuses(sheet: &[u8], room: usize) -> BTreeSet<u32> {
@@ -46,35 +42,6 @@ fn random_sheets_reach_each_refusal_of_a_call() {
     }
     assert!(reached[0].is_superset(&[0, 3, 6, 8, 9, 10, 11, 12, 13].into()), "{:?}", reached[0]);
     assert!(reached[1].is_superset(&[0, 3, 6, 8, 9, 10, 11, 12, 14].into()), "{:?}", reached[1]);
-}
-
-/// What the calls of a heap session met, each time; nothing in list mode and with many variables.
-fn met_on(sheet: &[u8]) -> Vec<&'static str> {
-    let mut lines = sheet.split_inclusive(|&byte| byte == b'\n').map_while(|line| line.strip_suffix(b"\n")).peekable();
-    let Some(Ok((num_vars @ 0..=64, Mode::Vsids))) = lines.next().map(parse_heading) else { return Vec::new() };
-    let mut formula = Formula::new(num_vars);
-    while let Some(line) = lines.next_if(|line| line.first() == Some(&b'c')) {
-        let _ = parse_clause(line, &mut formula);
-    }
-    let mut session = Session::new(formula);
-    let (mut all, mut before, mut group) = (Vec::new(), HeapMemory::of(&session), Vec::new());
-    for line in lines {
-        let Ok(call) = parse_call(line, &mut group) else { continue };
-        if session.call(call).is_ok() {
-            let after = HeapMemory::of(&session);
-            all.extend(met(&before, call, &after));
-            before = after;
-        }
-    }
-    all
-}
-
-#[test]
-fn sheets_meet_ties_and_scalings_often() {
-    let mut times = BTreeMap::new();
-    let sheets = named().into_iter().map(|case| case.sheet).chain((0..2_000).map(sheet));
-    sheets.flat_map(|sheet| met_on(&sheet)).for_each(|what| *times.entry(what).or_insert(0) += 1);
-    assert!(TO_MEET.iter().all(|what| times.get(what).is_some_and(|&times| times >= 30)), "{times:?}");
 }
 
 #[test]

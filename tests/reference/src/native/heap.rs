@@ -34,7 +34,9 @@ const FACTS: &[Fact<HeapMemory>] = &[
         m.indices.iter().enumerate().all(|(var, &place)| place == NONE || m.in_heap().get(place as usize) == Some(&(var as u32)))
     }),
     ("unused places of the heap are NONE", |m, _| unused_is_none(&m.heap, m.members)),
-    ("no member comes before its parent", |m, _| m.children().all(|(child, parent)| !m.comes_first(child, parent))),
+    ("a parent's activity is no lower", |m, _| {
+        m.in_heap().iter().enumerate().skip(1).all(|(place, &var)| !m.is_higher(var, m.heap[(place - 1) / 2]))
+    }),
     ("activities have no sign and are at most 1e101", |m, _| m.activity.iter().all(|&activity| is_upright(activity, MAX_ACTIVITY))),
     ("the step has no sign and is at most 1e200", |m, _| is_upright(m.inc, MAX_STEP)),
     ("the decay is from 0.5 to 1", |m, _| (0.5..=1.0).contains(&m.decay)),
@@ -55,11 +57,6 @@ impl HeapMemory {
         in_use(&self.heap, self.members)
     }
 
-    /// Each member but the first, with its parent.
-    pub(crate) fn children(&self) -> impl Iterator<Item = (u32, u32)> + '_ {
-        self.in_heap().iter().enumerate().skip(1).map(|(place, &var)| (var, self.heap[(place - 1) / 2]))
-    }
-
     /// Of each variable whether it is a member.
     fn is_member(&self, n: usize) -> Vec<bool> {
         let mut is_member = vec![false; n];
@@ -71,11 +68,10 @@ impl HeapMemory {
         is_member
     }
 
-    /// Whether x comes first of x and y, if they are variables.
-    pub(crate) fn comes_first(&self, x: u32, y: u32) -> bool {
+    /// Whether a variable's activity is above another's, if they are variables.
+    fn is_higher(&self, var: u32, than: u32) -> bool {
         let activity = |var: u32| self.activity.get(var as usize).copied().unwrap_or(f64::NAN);
-        let (of_x, of_y) = (activity(x), activity(y));
-        of_x > of_y || of_x == of_y && x < y
+        activity(var) > activity(than)
     }
 }
 

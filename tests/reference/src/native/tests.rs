@@ -43,8 +43,8 @@ fn the_worked_sheet_as_a_list() {
     let words: Vec<u32> = calls_of.iter().flat_map(|&(letter, argument)| [letter as u32, argument, 0]).collect();
     let mut answers = vec![7; 12];
     assert_eq!(calls(3, &clauses, &mut heap, &[], &words, &mut answers), Ok(()));
-    assert_eq!(answers, [0, NONE, 0, 2, 0, 0, 0, 1, 0, 0, 0, 2]);
-    assert_eq!((heap.trail.values, heap.trail.levels, heap.trail.curr_i), (vec![2; 3], vec![2, NONE, 1], 0));
+    assert_eq!(answers, [0, NONE, 0, 2, 0, 0, 0, 1, 0, 1, 0, 2]);
+    assert_eq!((heap.trail.values, heap.trail.levels, heap.trail.curr_i), (vec![2; 3], vec![2, 2, 1], 0));
 }
 
 #[test]

@@ -1,12 +1,5 @@
 use super::{check, reader::Reader, room, writer::Writer, Saved};
-use crate::{
-    heap::{comes_first, Heap},
-    refusal::Refusal,
-    sheet::Mode,
-    trail::Trail,
-    vsids::VSIDS,
-    INVALID,
-};
+use crate::{heap::Heap, refusal::Refusal, sheet::Mode, trail::Trail, vsids::VSIDS, INVALID};
 
 const MAX_ACTIVITY: f64 = 1e101;
 const MAX_STEP: f64 = 1e200;
@@ -51,13 +44,13 @@ impl Saved for VSIDS {
     }
 }
 
-/// The position of each variable among the members, which are variables, none of them twice, each behind its parent.
+/// The position of each variable among the members, which are variables, none of them twice, each no higher than its parent.
 fn positions(members: &[usize], activity: &[f64]) -> Result<Vec<usize>, Refusal> {
     let mut indices = vec![INVALID; activity.len()];
     for (place, &var) in members.iter().enumerate() {
         check(indices.get(var) == Some(&INVALID), Refusal::State)?;
         indices[var] = place;
-        check(place == 0 || comes_first(activity, members[(place - 1) / 2], var), Refusal::State)?;
+        check(place == 0 || activity[var] <= activity[members[(place - 1) / 2]], Refusal::State)?;
     }
     Ok(indices)
 }

@@ -4,9 +4,6 @@ use crate::{
     native::{HeapMemory, ListMemory, Memory},
 };
 
-#[path = "../../../saved/src/old.rs"]
-mod old;
-
 /// A text or a sheet, written with | for a tab and a space for a newline.
 fn bytes(text: &str) -> Vec<u8> {
     text.split_whitespace().flat_map(|line| line.replace('|', "\t").into_bytes().into_iter().chain([b'\n'])).collect()
@@ -18,7 +15,7 @@ const LIST: &str = "n|2|vmtf t l r q|0 v|0|1 s|2|1 k|3 f|0";
 const NONE: u32 = u32::MAX;
 
 /// A heap session of three variables, all of them on the trail at levels 0, 1 and 1, with two members.
-const FULL_HEAP: &str = "n|3|vsids c|1|3 c t|1|2|5 l|0|1|1 r|0|-|1 q|3 h|0|2 \
+const FULL_HEAP: &str = "n|3|vsids c|1|3 c t|1|2|5 l|0|1|1 r|0|-|1 q|3 h|2|0 \
     a|4008000000000000|0000000000000000|4008000000000000 o|1|0|1 w|3ff0000000000000|3ff0000000000000";
 const FULL_LIST: &str = "n|3|vmtf c|1|3 c t|1|2|5 l|1|1|2 r|-|0|1 q|1 v|2|0|1 s|9|5|0 k|18446744073709551615 f|-";
 
@@ -91,7 +88,7 @@ fn sheets_texts_are_read_and_written_back() {
 
 #[test]
 fn levels_off_the_trail_are_read_as_none() {
-    let Ok(Live::Heap(session)) = read_either(&run_new(&bytes("n|2|vsids g|1 k|0 b|1 g|1")).unwrap().1) else { panic!("a heap session") };
+    let Ok(Live::Heap(session)) = read_either(&run_new(&bytes("n|2|vsids g|1 k|0 g|1")).unwrap().1) else { panic!("a heap session") };
     assert_eq!(session.trail.lit_to_level, [u32::MAX, 1]);
     let Ok(Live::List(session)) = read_either(&run_new(&bytes("n|1|vmtf g|1 k|0")).unwrap().1) else { panic!("a list session") };
     assert_eq!(session.trail.lit_to_level, [u32::MAX]);
@@ -102,7 +99,7 @@ fn what_is_not_written_follows() {
     let heap = HeapMemory::of(&read(&bytes(FULL_HEAP)).unwrap());
     assert_eq!((heap.trail.values, heap.trail.levels, heap.trail.reasons), (vec![1, 0, 1], vec![0, 1, 1], vec![0, u32::MAX, 1]));
     assert_eq!((heap.trail.opened, heap.trail.level, heap.trail.curr_i), (vec![1, u32::MAX, u32::MAX], 1, 3));
-    assert_eq!((heap.heap, heap.indices, heap.members), (vec![0, 2, u32::MAX], vec![0, u32::MAX, 1], 2));
+    assert_eq!((heap.heap, heap.indices, heap.members), (vec![2, 0, u32::MAX], vec![1, u32::MAX, 0], 2));
     let list = ListMemory::of(&read(&bytes(FULL_LIST)).unwrap());
     assert_eq!((list.trail.opened, list.trail.level), (vec![0, 2, u32::MAX], 2));
     assert_eq!((list.next, list.prev, list.ts), (vec![1, u32::MAX, 0], vec![2, 0, u32::MAX], vec![5, 0, 9]));
@@ -135,7 +132,7 @@ fn each_line_has_its_place_and_form() {
             ("q|3", "q|00"),
             ("q|3 ", ""),
             ("q|3 ", "q|3 q|3 "),
-            ("h|0|2 ", ""),
+            ("h|2|0 ", ""),
             ("o|1|0|1", "o|1|0|2"),
             ("o|1|0|1", "o|1|0"),
             ("w|3ff0000000000000|", "w|3ff000000000000|"),
@@ -228,9 +225,8 @@ fn a_state_is_good() {
         }
     }
     check_refused(Refusal::State, FULL_HEAP, &[("l|0|1|1", "l|2|2|2"), ("l|0|1|1", "l|0|2|2"), ("l|0|1|1", "l|1|0|1")]);
-    check_refused(Refusal::State, FULL_HEAP, &[("h|0|2", "h|0|3"), ("h|0|2", "h|0|0"), ("h|0|2", "h|0|2|0"), ("h|0|2", "h|1|0")]);
-    check_refused(Refusal::State, FULL_HEAP, &[("|4008000000000000 o", "|4008000000000001 o"), ("h|0|2", "h|2|0")]);
-    assert_eq!(refusal(&bytes(&FULL_HEAP.replace("h|0|2", "h|2|0").replace("|4008000000000000 o", "|4008000000000001 o"))), None);
+    check_refused(Refusal::State, FULL_HEAP, &[("h|2|0", "h|2|3"), ("h|2|0", "h|2|2"), ("h|2|0", "h|2|0|2"), ("h|2|0", "h|1|0")]);
+    check_refused(Refusal::State, FULL_HEAP, &[("a|4008000000000000", "a|4008000000000001")]);
     check_refused(Refusal::State, HEAP, &[("h|1", "h"), ("h|1", "h|0"), ("t|1 l|1 r|-", "t l r")]);
     assert_eq!(refusal(&with(&HEAP.replace("o|1|1", "o|1|0"), "h|1", "h")), None);
     for activity in ["8000000000000000", "7ff8000000000000", "fff8000000000000", "54e6dc186ef9f45d", "7ff0000000000000"] {
@@ -249,16 +245,6 @@ fn a_state_is_good() {
     check_refused(Refusal::State, FULL_LIST, &[("v|2|0|1", "v|2|0|0"), ("v|2|0|1", "v|2|0|3"), ("s|9|5|0", "s|9|5|5")]);
     check_refused(Refusal::State, FULL_LIST, &[("s|9|5|0", "s|18446744073709551615|5|0"), ("f|-", "f|3"), ("f|-", "f|4294967294")]);
     assert_eq!(refusal(&with(FULL_LIST, "s|9|5|0", "s|18446744073709551614|5|0")), None);
-}
-
-#[test]
-fn an_old_text_is_read_where_equal_activities_stand_in_order() {
-    for old::Old { lines, text, status } in old::OLD {
-        let found = refusal(text.as_bytes()).map_or(0, |refusal| refusal as u32);
-        assert_eq!(found, status, "behind {lines} lines");
-        let carried = carry_on(text.as_bytes(), b"").map(|(_, text)| text);
-        assert_eq!(carried, if status == 0 { Ok(text.into()) } else { Err(Refusal::State) });
-    }
 }
 
 #[test]

@@ -25,7 +25,7 @@ fn check(sheet: &str, expected: &str) {
 
 #[test]
 fn the_worked_sheet() {
-    check("n|3|vsids c|1|3 b|2 g|1 g|0 k|1 g|0 k|0", "0 0 0 0|2 0|0 0|1 0|0 0|2");
+    check("n|3|vsids c|1|3 b|2 g|1 g|0 k|1 g|0 k|0", "0 0 0 0|2 0|0 0|1 0|1 0|2");
 }
 
 #[test]

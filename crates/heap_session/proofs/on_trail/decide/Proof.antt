@@ -23,7 +23,7 @@ enq-decision-requires : tie.Need-enq-decision-requires
 enq-decision-requires c κs =
     let k = c.before.before.before.before.before.before.before.before.before.before.before.before.before.before.before.before.before.before.before.before.before.before.before.before.before.before.before.requires in
     let e = sym c.before.before.before.before.before.before.before.before.before.before.before.get-next.ensures in
-    let r = (chose_right _ k.heap (rw c.before.before.before.before.before.v.given.1 at e)).choice in
+    let r = chose_right _ k.heap (rw c.before.before.before.before.before.v.given.1 at e) in
     decision_room _ _ k.small k.trail r.var c.before.before.before.before.before.before.before.before.before.before.before.before.before.before.before.before.before.if1.false (picked_free k.trail _ _ r.var r.is_open)
 
 returns-2 : tie.Need-returns-2
