@@ -1,4 +1,5 @@
 // Activities as doubles, and the step that is added to them.
+#![tactic(auto)]
 ghost use Rattle.std.specs.Prelude.{◌≡◌};
 ghost use Rattle.activity.specs.Step as spec;
 
@@ -29,7 +30,7 @@ pub const MAX_DECAY: f64 = 1.0;
 const SIGN_BIT: u64 = 0x8000_0000_0000_0000;
 
 // The step added by a bump, and the decay by which it grows.
-#[derive(Drop)]
+#[derive(Clone, Copy)]
 pub struct Step {
     pub inc: f64,
     pub decay: f64,

@@ -1,6 +1,7 @@
 // The program that keeps a session in a file. `carry new FILE` runs the sheet on standard input, prints its answers and saves its session in FILE, which must not
 // be there yet. `carry on FILE` does the calls on standard input on the session in FILE, prints the answers and replaces FILE. What goes wrong is told on standard
 // error, and then FILE is as it was. docs/SAVED.md has the steps, and what a kill between any two of them leaves.
+#![tactic(auto)]
 use libc::STDOUT_FILENO;
 use lit::{ANSWER_ROOM, MAX_SHEET, NONE};
 

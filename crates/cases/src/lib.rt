@@ -1,1 +1,2 @@
 // No code: cases A to L, computed: those of document 01, from the definitions, in specs/.
+#![tactic(auto)]

@@ -1,4 +1,5 @@
 // A call sheet, from bytes to answers: the run, and the entry that hosts in C and Rust link.
+#![tactic(auto)]
 ghost use Rattle.std.specs.Prelude.{◌≡◌, ◌≤◌, length, []};
 ghost use Rattle.forms.specs.Text as text-spec;
 ghost use Rattle.book.specs.Session.{leaves};

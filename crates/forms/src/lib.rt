@@ -1,4 +1,5 @@
 // The forms of a sheet's lines: the first byte's kind by a table, the calls, the codes of a clause line, and the first line.
+#![tactic(auto)]
 pub mod table;
 
 ghost use Rattle.std.specs.Prelude.{◌≡◌, ℕ, List, drop, slice_set};
@@ -25,7 +26,7 @@ pub mod spelling;
 pub mod text;
 
 // A call, a group whose variables are still to be read, or none where the line has no call's form.
-#[derive(Drop)]
+#[derive(Clone, Copy)]
 pub enum Read {
     Is(Call),
     Group,
@@ -33,14 +34,14 @@ pub enum Read {
 }
 
 // How many whole numbers a line holds, or none where it does not have the form.
-#[derive(Drop)]
+#[derive(Clone, Copy)]
 pub enum Count {
     Are(usize),
     Bad,
 }
 
 // What a first line opens: heap or list mode with so many variables.
-#[derive(Drop)]
+#[derive(Clone, Copy)]
 pub enum First {
     Heap(u32),
     List(u32),

@@ -14,21 +14,21 @@ pub const TAB: u8 = 9;
 pub const NEWLINE: u8 = 10;
 
 // A whole number, or none where the bytes do not have its form.
-#[derive(Drop)]
+#[derive(Clone, Copy)]
 pub enum Whole {
     Is(u32),
     Bad,
 }
 
 // The whole number that a field is and the place behind the field, or none where the bytes do not have a number's form.
-#[derive(Drop)]
+#[derive(Clone, Copy)]
 pub enum Field {
     Is(u64, usize),
     Bad,
 }
 
 // The 64 bits of a double, or none where the bytes do not have their form.
-#[derive(Drop)]
+#[derive(Clone, Copy)]
 pub enum Bits {
     Are(u64),
     Bad,

@@ -9,7 +9,7 @@ ghost use Rattle.lit.specs.Numbers.{max_vars};
 use lit::{BAD_CLAUSES, BAD_LENGTH, MANY_VARS, MAX_VARS};
 
 // What a check says of a formula. The assignment in the source's Sat is always empty here, and is left out.
-#[derive(Drop)]
+#[derive(Clone, Copy)]
 pub enum SatResult {
     Err,
     Sat,
@@ -18,14 +18,14 @@ pub enum SatResult {
 }
 
 // The reply of a check with a formula's answer, or the number of the refusal.
-#[derive(Drop)]
+#[derive(Clone, Copy)]
 pub enum Checked {
     Refused(u32),
     Answer(SatResult),
 }
 
 // The reply of a check that is passed or not, or the number of the refusal.
-#[derive(Drop)]
+#[derive(Clone, Copy)]
 pub enum Tested {
     Refused(u32),
     Answer(bool),

@@ -1,5 +1,6 @@
 // The formula checks, tried: the three of them on small clause lists: case L, other answers, and refusals 4 to 6. A line for each: a letter (d for
 // `no_duplicates`, c for `check_clause_invariant`, f for `check_formula_invariant`), the status, and the answer's number or NONE.
+#![tactic(auto)]
 use formula::checks::{Checked, SatResult, Tested};
 use lit::NONE;
 

@@ -1,4 +1,5 @@
 // Saved sessions in heap mode: a session that was lent is written as text. The entry points ask nothing of their callers.
+#![tactic(auto)]
 ghost use Rattle.session.specs.Entry.{Answered};
 ghost use Rattle.heap_session.specs.Memory.{session_of};
 ghost use Rattle.heap_entry.specs.Entry.{heap_mode};

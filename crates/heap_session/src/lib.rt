@@ -1,4 +1,5 @@
 // The calls in heap mode: the trail and the heap of VSIDS over lent slices, by subject.
+#![tactic(auto)]
 ghost use Rattle.std.specs.Prelude.{◌≡◌};
 ghost use Rattle.lit.specs.Numbers as number;
 ghost use Rattle.heap_session.specs.Memory.{answer};
@@ -12,14 +13,14 @@ pub mod order;
 pub mod step;
 
 // The small states of the trail and of the heap.
-#[derive(Drop)]
+#[derive(Clone, Copy)]
 pub struct HeapState {
     pub trail: TrailState,
     pub vsids: VsidsState,
 }
 
 // What a call answers: 0 or the refusal, the reply or NONE, and the small states to go on with.
-#[derive(Drop)]
+#[derive(Clone, Copy)]
 pub struct HeapAnswer {
     pub status: u32,
     pub reply: u32,

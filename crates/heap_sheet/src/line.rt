@@ -19,7 +19,7 @@ use lit::{BAD_LINE, NONE};
 use sheet::Place;
 
 // Where a run stands in a session: its place, and the small states.
-#[derive(Drop)]
+#[derive(Clone, Copy)]
 pub struct HeapPlace {
     pub place: Place,
     pub state: HeapState,

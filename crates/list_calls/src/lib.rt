@@ -1,4 +1,5 @@
 // Lists of calls in list mode: the memory that was lent is checked once, then the calls are done and answered one after another.
+#![tactic(auto)]
 ghost use Rattle.std.specs.Prelude.{◌≡◌, List, ℕ, ◌+◌, ◌*◌, ◌≤◌, length};
 ghost use Rattle.trail.specs.Memory.{trail_of};
 ghost use Rattle.vmtf.specs.Vmtf.{vmtf_of};

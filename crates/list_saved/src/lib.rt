@@ -1,4 +1,5 @@
 // Saved sessions in list mode: a session that was lent is written as text. The entry points ask nothing of their callers.
+#![tactic(auto)]
 ghost use Rattle.session.specs.Entry.{Answered};
 ghost use Rattle.list_session.specs.Memory.{session_of};
 ghost use Rattle.list_entry.specs.Entry.{list_mode};

@@ -17,7 +17,7 @@ use saved_state::memory::{set_list, set_trail};
 use saved_text::form::{ListRows, ListText, TrailRows, list_text};
 
 // What was loaded: the counts of clauses and literals, whether the clause list is good, whether the state is, and the small states.
-#[derive(Drop)]
+#[derive(Clone, Copy)]
 pub struct Loaded {
     pub clauses: usize,
     pub literals: usize,
@@ -27,7 +27,7 @@ pub struct Loaded {
 }
 
 // That, or nothing where the text does not have its form.
-#[derive(Drop)]
+#[derive(Clone, Copy)]
 pub enum Loading {
     Is(Loaded),
     Bad,

@@ -1,4 +1,5 @@
 // The calls in list mode: the trail and the move-to-front list over lent slices, each call with what it answers.
+#![tactic(auto)]
 ghost use Rattle.std.specs.Prelude.{◌≡◌, cond, List, ℕ, ◌≤◌, length, eqb};
 ghost use Rattle.lit.specs.Numbers as number;
 ghost use Rattle.trail.specs.Memory.{trail_of};
@@ -16,14 +17,14 @@ use vmtf::{Next, VmtfState};
 pub mod step;
 
 // The small states of the trail and of the list.
-#[derive(Drop)]
+#[derive(Clone, Copy)]
 pub struct ListState {
     pub trail: TrailState,
     pub vmtf: VmtfState,
 }
 
 // What a call answers: 0 or the refusal, the reply or NONE, and the small states to go on with.
-#[derive(Drop)]
+#[derive(Clone, Copy)]
 pub struct ListAnswer {
     pub status: u32,
     pub reply: u32,

@@ -1,4 +1,5 @@
 // The lines of a session in list mode on a sheet, once the clause lines are read: the session is made fresh and checked once, and its lines are done.
+#![tactic(auto)]
 ghost use Rattle.std.specs.Prelude.{◌≡◌, true, ◌≤◌, length};
 ghost use Rattle.lit.specs.Numbers as number;
 ghost use Rattle.formula.specs.Good.{GoodClauses};
@@ -22,7 +23,7 @@ pub mod line;
 pub mod run;
 
 // The states of a fresh session, and whether they passed their check.
-#[derive(Drop)]
+#[derive(Clone, Copy)]
 pub struct Started {
     pub state: ListState,
     pub good: bool,

@@ -20,7 +20,7 @@ use lit::BAD_LINE;
 use sheet::Place;
 
 // Where a run stands in a session: its place, and the small states.
-#[derive(Drop)]
+#[derive(Clone, Copy)]
 pub struct ListPlace {
     pub place: Place,
     pub state: ListState,

@@ -5,7 +5,7 @@ ghost use Rattle.node_entry.specs.Nodes.{nexts, prevs, tss, no_node, FlatRoom, r
 use lit::MAX_VARS;
 
 // A variable's place in the list: its neighbours and its stamp.
-#[derive(Drop)]
+#[derive(Clone, Copy)]
 pub struct Node {
     pub next: u32,
     pub prev: u32,

@@ -1,4 +1,5 @@
 // Saved sessions over nodes: those of list mode with the list as a lent slice of nodes. The entry points ask nothing of their callers.
+#![tactic(auto)]
 ghost use Rattle.session.specs.Entry.{Answered};
 ghost use Rattle.list_session.specs.Memory.{session_of};
 ghost use Rattle.list_entry.specs.Entry.{list_mode, blank};

@@ -1,5 +1,6 @@
 // Each refusal, tried once: 4 to 14 at the entry points, in each mode where they can come, each on a small memory of its own. A line for each: a
 // letter (h and l for calls in heap and list mode, n and m for creation), the refusal that is due, the status and the reply.
+#![tactic(auto)]
 use activity::Step;
 use heap_session::HeapState;
 use list_session::ListState;
@@ -11,7 +12,7 @@ use vsids::VsidsState;
 
 // What is lent for a call: the number of variables and of literals as stated, whether a group's variables are left out beside its scratch,
 // the second literal's code, the second variable's value and switch, the list's search and the heap's step.
-#[derive(Drop)]
+#[derive(Clone, Copy)]
 pub struct Lent {
     pub vars: u32,
     pub literals: u32,

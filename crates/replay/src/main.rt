@@ -1,5 +1,6 @@
 // Sheets of the reference: runs those on standard input, each ended by a byte 0, and writes what the program prints for each, and an empty line behind it. The sheets and
 // what is expected here (`stdin`, `stdout`) are a sample of the reference in tests/reference.
+#![tactic(auto)]
 use libc::{STDIN_FILENO, STDOUT_FILENO};
 
 // Runs one sheet.

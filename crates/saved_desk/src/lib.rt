@@ -1,4 +1,5 @@
 // Sheets with saved sessions, from bytes to bytes: a sheet whose session is saved at its end, and a sheet of calls on a saved session, with the entries that hosts in C and Rust link.
+#![tactic(auto)]
 ghost use Rattle.std.specs.Prelude.{length};
 ghost use Rattle.saved_sheet.specs.Sheets.{ran_new, ran_on};
 ghost use Rattle.saved_run.specs.Outcomes.{Comes};

@@ -1,4 +1,5 @@
 // What a run with a saved session comes to: how much it has written, or the refusal of the whole run; and the sizes of its arrays.
+#![tactic(auto)]
 ghost use Rattle.std.specs.Prelude.{◌≡◌, true, ◌≤◌};
 ghost use Rattle.lit.specs.Numbers as number;
 ghost use Rattle.saved_run.specs.Carried.{refusal_of};
@@ -7,14 +8,14 @@ use lit::{BAD_CLAUSES, BAD_STATE, MAX_VARS, SHORT_BUFFER};
 use saved_state::saving::longest;
 
 // How many bytes a run has written: of answers, and of the text of its session.
-#[derive(Drop)]
+#[derive(Clone, Copy)]
 pub struct Both {
     pub answers: usize,
     pub text: usize,
 }
 
 // That, or the refusal of the whole run.
-#[derive(Drop)]
+#[derive(Clone, Copy)]
 pub enum Outcome {
     Written(Both),
     Refused(u32),

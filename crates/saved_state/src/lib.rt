@@ -1,4 +1,5 @@
 // What a saved text says of a session's memory: numbers of its lines from the memory, and the memory from them; and the lines that both modes write.
+#![tactic(auto)]
 pub mod copying;
 pub mod judging;
 pub mod loading;
@@ -7,7 +8,7 @@ pub mod saving;
 pub mod writing;
 
 // What writing a session answers: 0 or the refusal, and the byte count or NONE.
-#[derive(Drop)]
+#[derive(Clone, Copy)]
 pub struct TextAnswer {
     pub status: u32,
     pub reply: u32,

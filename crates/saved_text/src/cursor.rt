@@ -8,21 +8,21 @@ use forms::text::{Bits, Field, NEWLINE, TAB, digits_at, small_digits_at};
 use lit::NONE;
 
 // How the numbers of a line are written that fit 32 bits: in decimal up to the greatest that may stand there, or as reasons.
-#[derive(Drop)]
+#[derive(Clone, Copy)]
 pub enum Word {
     UpTo(u32),
     Reason,
 }
 
 // And those of 64 bits: in decimal, or as the bits of a double.
-#[derive(Drop)]
+#[derive(Clone, Copy)]
 pub enum Long {
     Number,
     Bits,
 }
 
 // How many numbers a line has, the greatest of them, or 0, and the place behind the line's newline.
-#[derive(Drop)]
+#[derive(Clone, Copy)]
 pub struct Numbers {
     pub count: usize,
     pub greatest: u64,
@@ -30,7 +30,7 @@ pub struct Numbers {
 }
 
 // The numbers of a line, or none where it does not have its form.
-#[derive(Drop)]
+#[derive(Clone, Copy)]
 pub enum Row {
     Is(Numbers),
     Bad,

@@ -42,14 +42,14 @@ pub const SEARCH: u8 = b'f';
 pub const ON: u32 = 1;
 
 // The place behind some lines, or none where they do not have their form.
-#[derive(Drop)]
+#[derive(Clone, Copy)]
 pub enum Past {
     Is(usize),
     Bad,
 }
 
 // The lines of a trail: how many codes, the greatest of them, or 0, `curr_i`, and the place behind them.
-#[derive(Drop)]
+#[derive(Clone, Copy)]
 pub struct TrailRows {
     pub count: usize,
     pub greatest: u64,
@@ -57,14 +57,14 @@ pub struct TrailRows {
     pub behind: usize,
 }
 
-#[derive(Drop)]
+#[derive(Clone, Copy)]
 pub enum TrailLines {
     Are(TrailRows),
     Bad,
 }
 
 // The lines of a heap: how many members, the greatest of them, or 0, the bits of step and decay, and the place behind them.
-#[derive(Drop)]
+#[derive(Clone, Copy)]
 pub struct HeapRows {
     pub count: usize,
     pub greatest: u64,
@@ -73,14 +73,14 @@ pub struct HeapRows {
     pub behind: usize,
 }
 
-#[derive(Drop)]
+#[derive(Clone, Copy)]
 pub enum HeapLines {
     Are(HeapRows),
     Bad,
 }
 
 // The lines of a list: the greatest variable in its order, or 0, the timestamp, where the search starts, and the place behind them.
-#[derive(Drop)]
+#[derive(Clone, Copy)]
 pub struct ListRows {
     pub greatest: u64,
     pub timestamp: u64,
@@ -88,14 +88,14 @@ pub struct ListRows {
     pub behind: usize,
 }
 
-#[derive(Drop)]
+#[derive(Clone, Copy)]
 pub enum ListLines {
     Are(ListRows),
     Bad,
 }
 
 // The clauses of a text: how many, their literals, the greatest code, or 0, and the place behind them.
-#[derive(Drop)]
+#[derive(Clone, Copy)]
 pub struct Clauses {
     pub count: usize,
     pub literals: usize,
@@ -103,14 +103,14 @@ pub struct Clauses {
     pub behind: usize,
 }
 
-#[derive(Drop)]
+#[derive(Clone, Copy)]
 pub enum Section {
     Are(Clauses),
     Bad,
 }
 
 // The counts of a text: its mode and number of variables, the place of its clauses, and the clauses.
-#[derive(Drop)]
+#[derive(Clone, Copy)]
 pub struct Counts {
     pub list: bool,
     pub n: u32,
@@ -118,14 +118,14 @@ pub struct Counts {
     pub clauses: Clauses,
 }
 
-#[derive(Drop)]
+#[derive(Clone, Copy)]
 pub enum Formed {
     Is(Counts),
     Bad,
 }
 
 // The first line of a text: its mode and number of variables, and the place behind it.
-#[derive(Drop)]
+#[derive(Clone, Copy)]
 pub enum Opened {
     Heap(u32, usize),
     List(u32, usize),
@@ -133,13 +133,13 @@ pub enum Opened {
 }
 
 // What a text of either mode says behind its first line: its clauses, its trail, and the heap or the list.
-#[derive(Drop)]
+#[derive(Clone, Copy)]
 pub enum HeapText {
     Is(Clauses, TrailRows, HeapRows),
     Bad,
 }
 
-#[derive(Drop)]
+#[derive(Clone, Copy)]
 pub enum ListText {
     Is(Clauses, TrailRows, ListRows),
     Bad,

@@ -11,7 +11,7 @@ use forms::text::{NEWLINE, TAB, digit_count, put_number};
 use lit::NONE;
 
 // How a number is written: in decimal up to the greatest that may stand there, as the 64 bits of a double, or as a reason.
-#[derive(Drop)]
+#[derive(Clone, Copy)]
 pub enum Kind {
     UpTo(u64),
     Bits,

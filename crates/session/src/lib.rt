@@ -1,4 +1,5 @@
 // What both modes share: the calls of a session, and the tests of arguments.
+#![tactic(auto)]
 ghost use Rattle.std.specs.Prelude.{◌≡◌};
 ghost use Rattle.book.specs.Chooser.{below, good_reason};
 
@@ -8,7 +9,7 @@ pub mod entry;
 pub mod on_trail;
 
 // The eleven calls. The variables of a group are a slice beside the call.
-#[derive(Drop)]
+#[derive(Clone, Copy)]
 pub enum Call {
     // a variable
     Bump(u32),

@@ -14,7 +14,7 @@ use lit::{ASSIGNED, BAD_REASON, NO_VARIABLE, NONE};
 use trail::TrailState;
 
 // What a call on the trail answers: 0 or the refusal, the reply or NONE, and the small state to go on with.
-#[derive(Drop)]
+#[derive(Clone, Copy)]
 pub struct TrailAnswer {
     pub status: u32,
     pub reply: u32,

@@ -11,7 +11,7 @@ use forms::text::NEWLINE;
 use lit::{BAD_CLAUSES, BAD_LINE, NONE};
 
 // The status of a clause line, and the counts of the clause list behind it.
-#[derive(Drop)]
+#[derive(Clone, Copy)]
 pub struct Added {
     pub status: u32,
     pub literals: u32,
@@ -19,7 +19,7 @@ pub struct Added {
 }
 
 // Where a run stands among the clause lines: its place, and the counts of the clause list.
-#[derive(Drop)]
+#[derive(Clone, Copy)]
 pub struct Section {
     pub place: Place,
     pub literals: u32,

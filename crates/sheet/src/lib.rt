@@ -1,4 +1,5 @@
 // The run of a call sheet: the answer lines, and the place of a run in the sheet and in the answer buffer.
+#![tactic(auto)]
 ghost use Rattle.std.specs.Prelude.{◌≡◌, ◌+◌, ◌≤◌, ◌<◌, length};
 ghost use Rattle.lit.specs.Numbers.{max_sheet};
 ghost use Rattle.sheet.specs.Sheet.{answer_line};
@@ -48,7 +49,7 @@ pub fn answer(out: &mut [u8], at: usize, line: u32, status: u32, reply: u32) -> 
 }
 
 // Where a run stands: the place in the sheet, how many lines are left, the number of the next, and the place in the answer buffer.
-#[derive(Drop)]
+#[derive(Clone, Copy)]
 pub struct Place {
     pub from: usize,
     pub left: u32,

@@ -1,5 +1,6 @@
 // The program: reads a call sheet on standard input and writes its answers, or refusal 1 or 2 alone on a line. Of a sheet that is too long it reads
 // 65,536 bytes, which tell.
+#![tactic(auto)]
 use libc::{STDERR_FILENO, STDIN_FILENO, STDOUT_FILENO};
 
 fn main() {

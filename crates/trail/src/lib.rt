@@ -1,6 +1,7 @@
 // The trail of trail.rs: steps, going back. Over lent slices of length N: for each variable its value, level and reason; the literals on the
 // trail; and for each opened level the trail's length before its decision. Unused places hold NONE.
 // A slice that a function leaves alone is passed as `&`, so that its contract names the whole trail.
+#![tactic(auto)]
 ghost use Rattle.std.specs.Prelude.{◌≡◌, ◌<◌, length, replicate};
 ghost use Rattle.lit.specs.Numbers as number;
 ghost use Rattle.lit.specs.Lits as lits;
@@ -12,7 +13,7 @@ use lit::NONE;
 pub mod back;
 
 // How many places of the trail and of the opened levels are in use, and `curr_i`.
-#[derive(Drop)]
+#[derive(Clone, Copy)]
 pub struct TrailState {
     pub len: u32,
     pub level: u32,

@@ -1,5 +1,6 @@
 // The list chooser: JigSAT's `VMTF` over lent slices: for each variable the one after it, the one before
 // it and its stamp. Here are what a decide finds in it and its check; `move_to_front` makes it and moves variables in it.
+#![tactic(auto)]
 ghost use Rattle.std.specs.Prelude.{◌≡◌, List, ℕ, ◌<◌, ◌≤◌, length, replicate};
 ghost use Rattle.lit.specs.Numbers.{NONE as none};
 ghost use Rattle.vmtf.specs.Vmtf as spec;
@@ -8,7 +9,7 @@ ghost use Rattle.vmtf.specs.Vmtf.{vmtf_of, Ends};
 use lit::{NONE, UNASSIGNED};
 
 // The front, where a decide starts to look, and the next stamp.
-#[derive(Drop)]
+#[derive(Clone, Copy)]
 pub struct VmtfState {
     pub start: u32,
     pub search: u32,
@@ -16,7 +17,7 @@ pub struct VmtfState {
 }
 
 // What a decide finds: a variable with the state after it; no unassigned variable; or none from search on, though there is one.
-#[derive(Drop)]
+#[derive(Clone, Copy)]
 pub enum Next {
     Chose(VmtfState, u32),
     Nothing,

@@ -1,4 +1,5 @@
 // The heap chooser: JigSAT's `VSIDS` over lent slices, with the count of members and the step by value.
+#![tactic(auto)]
 ghost use Rattle.std.specs.Prelude.{◌≡◌, List, false, ℕ, ◌<◌, ◌≤◌, Float, length, get_or, replicate};
 ghost use Rattle.lit.specs.Numbers.{max_vars, switched_on};
 ghost use Rattle.lit.specs.Lits.{index};
@@ -15,14 +16,14 @@ use lit::{OFF, ON, UNASSIGNED};
 pub mod heap_check;
 
 // How many members the heap has, and the step.
-#[derive(Drop)]
+#[derive(Clone, Copy)]
 pub struct VsidsState {
     pub len: u32,
     pub step: Step,
 }
 
 // The variable chosen, or none, with the state left.
-#[derive(Drop)]
+#[derive(Clone, Copy)]
 pub enum Next {
     Chose(u32, VsidsState),
     Nothing(VsidsState),

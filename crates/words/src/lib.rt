@@ -1,4 +1,5 @@
 // Calls and answers in words: three words to a call, two to an answer.
+#![tactic(auto)]
 ghost use Rattle.std.specs.Prelude.{◌≡◌, List, ℕ, ◌+◌, ◌*◌, ◌≤◌, leb, length, set, ◌&&◌};
 ghost use Rattle.std.specs.Float.{binary64};
 ghost use Rattle.std.specs.Float.Ieee.{of_bits};
@@ -16,7 +17,7 @@ use lit::MAX_GROUP;
 use session::Call;
 
 // What three words say: no call, a call, or a group whose variables stand in the lent slice.
-#[derive(Drop)]
+#[derive(Clone, Copy)]
 pub enum Said {
     Bad,
     Is(Call),
