@@ -43,15 +43,15 @@ fn words_call(
     requires { let t = trail_of values.old levels.old reasons.old trail.old opened.old s.trail in
         let h = vsids_of activity.old heap.old indices.old decision.old s.vsids in
         GoodSession n m lits.now ends.now t h }
-    ensures* { λ r.
+    ensures {
         let before = session_of n m lits.now ends.now
         values.old levels.old reasons.old trail.old opened.old
         activity.old heap.old indices.old decision.old s in
         let after = session_of n m lits.now ends.now
         values.new levels.new reasons.new trail.new opened.new
-        activity.new heap.new indices.new decision.new r.state in
-        let result = called n m (heap_ops n lits.now ends.now) before (word_call vars.now letter a b) in
-        ⌜ Answered result before r.status r.reply after ⌝ }
+        activity.new heap.new indices.new decision.new result.state in
+        let wanted = called n m (heap_ops n lits.now ends.now) before (word_call vars.now letter a b) in
+        Answered wanted before result.status result.reply after }
 {
     let none = [0u32; 0];
     match read_words(vars, letter, a, b) {
@@ -196,16 +196,16 @@ pub fn enter(
     calls: &[u32],
     answers: &mut [u32],
 ) -> HeapAnswer
-    ensures* { λ r.
+    ensures {
         let before = session_of n clauses lits.now ends.now
         values.old levels.old reasons.old trail.old opened.old
         activity.old heap.old indices.old decision.old s in
         let after = session_of n clauses lits.now ends.now
         values.new levels.new reasons.new trail.new opened.new
-        activity.new heap.new indices.new decision.new r.state in
+        activity.new heap.new indices.new decision.new result.state in
         let out = answers.old in
-        let result = entered_words n clauses lits.now literals ends.now vars.now calls.now (length out) before in
-        ⌜ Answered result (before, out) r.status r.reply (after, answers.new) ⌝ }
+        let wanted = entered_words n clauses lits.now literals ends.now vars.now calls.now (length out) before in
+        Answered wanted (before, out) result.status result.reply (after, answers.new) }
 {
     let fit = words_fit(calls.len(), answers.len());
     let k = refusal(

@@ -35,14 +35,14 @@ pub fn save(
     s: HeapState,
     text: &mut [u8],
 ) -> TextAnswer
-    ensures* { λ r.
+    ensures {
         let before = session_of n clauses lits.now ends.now
         values.now levels.now reasons.now trail.now opened.now
         activity.now heap.now indices.now decision.now s in
         let mode = heap_mode n clauses lits.now ends.now in
-        let result = wrote n clauses mode lits.now literals ends.now
+        let wanted = wrote n clauses mode lits.now literals ends.now
         (λ u. saved_heap n lits.now ends.now u.trail u.chooser) before text.old in
-        ⌜ Answered result text.old r.status r.reply text.new ⌝ }
+        Answered wanted text.old result.status result.reply text.new }
 {
     let k = refusal(
         n, literals, clauses, lits, ends, values, levels, reasons, trail, opened, activity, heap,

@@ -40,15 +40,15 @@ fn words_call(
     requires { let t = trail_of values.old levels.old reasons.old trail.old opened.old s.trail in
         let l = vmtf_of next.old prev.old ts.old s.vmtf in
         GoodSession n m t l }
-    ensures* { λ r. ⌜ ((lits : List ℕ) →
+    ensures { ((lits : List ℕ) →
         let before = session_of n m lits
         values.old levels.old reasons.old trail.old opened.old
         next.old prev.old ts.old s in
         let after = session_of n m lits
         values.new levels.new reasons.new trail.new opened.new
-        next.new prev.new ts.new r.state in
-        let result = called n m (list_ops n lits) before (word_call vars.now letter a b) in
-        Answered result before r.status r.reply after) ⌝ }
+        next.new prev.new ts.new result.state in
+        let wanted = called n m (list_ops n lits) before (word_call vars.now letter a b) in
+        Answered wanted before result.status result.reply after) }
 {
     let none = [0u32; 0];
     let mut no_stamps = [0u64; 0];
@@ -200,16 +200,16 @@ pub fn enter(
     calls: &[u32],
     answers: &mut [u32],
 ) -> ListAnswer
-    ensures* { λ r.
+    ensures {
         let before = session_of n clauses lits.now
         values.old levels.old reasons.old trail.old opened.old
         next.old prev.old ts.old s in
         let after = session_of n clauses lits.now
         values.new levels.new reasons.new trail.new opened.new
-        next.new prev.new ts.new r.state in
+        next.new prev.new ts.new result.state in
         let out = answers.old in
-        let result = entered_words n clauses lits.now literals ends.now vars.now calls.now (length out) before in
-        ⌜ Answered result (before, out) r.status r.reply (after, answers.new) ⌝ }
+        let wanted = entered_words n clauses lits.now literals ends.now vars.now calls.now (length out) before in
+        Answered wanted (before, out) result.status result.reply (after, answers.new) }
 {
     let fit = words_fit(calls.len(), answers.len());
     let k = refusal(

@@ -47,15 +47,15 @@ pub fn fresh(
     counts: &mut [u32],
     indexes: &mut [u32],
 ) -> ListAnswer
-    ensures* fact { λ r.
+    ensures fact {
         let before = session_of n clauses lits.now
         values.old levels.old reasons.old trail.old opened.old
         next.old prev.old ts.old blank in
         let after = session_of n clauses lits.now
         values.new levels.new reasons.new trail.new opened.new
-        next.new prev.new ts.new r.state in
-        let result = made n clauses lits.now literals ends.now counts.old indexes.old before in
-        ⌜ Answered result before r.status r.reply after ⌝ }
+        next.new prev.new ts.new result.state in
+        let wanted = made n clauses lits.now literals ends.now counts.old indexes.old before in
+        Answered wanted before result.status result.reply after }
     ensures fact_2 { let used = eqb result.status 0 in
         (counts.new ≡ cleared used counts.old) × (indexes.new ≡ cleared used indexes.old) }
 {

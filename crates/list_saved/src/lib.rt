@@ -34,14 +34,14 @@ pub fn save(
     s: ListState,
     text: &mut [u8],
 ) -> TextAnswer
-    ensures* { λ r.
+    ensures {
         let before = session_of n clauses lits.now
         values.now levels.now reasons.now trail.now opened.now
         next.now prev.now ts.now s in
         let mode = list_mode n clauses lits.now in
-        let result = wrote n clauses mode lits.now literals ends.now
+        let wanted = wrote n clauses mode lits.now literals ends.now
         (λ u. saved_list n lits.now ends.now u.trail u.chooser) before text.old in
-        ⌜ Answered result text.old r.status r.reply text.new ⌝ }
+        Answered wanted text.old result.status result.reply text.new }
 {
     let k = refusal(
         n, literals, clauses, lits, ends, values, levels, reasons, trail, opened, next, prev, ts,

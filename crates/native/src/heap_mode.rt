@@ -91,7 +91,7 @@ pub extern "C" fn sigvort_heap_calls(
     calls: &[u32],
     answers: &mut [u32],
 ) -> u32
-    ensures* { λ r.
+    ensures {
         let before = session_of n clauses lits.now ends.now
         values.old levels.old reasons.old trail.old opened.old
         activity.old heap.old indices.old decision.old (heap_state len.old level.old curr_i.old members.old inc.old decay.old) in
@@ -99,8 +99,8 @@ pub extern "C" fn sigvort_heap_calls(
         values.new levels.new reasons.new trail.new opened.new
         activity.new heap.new indices.new decision.new (heap_state len.new level.new curr_i.new members.new inc.new decay.new) in
         let out = answers.old in
-        let result = entered_words n clauses lits.now literals ends.now vars.now calls.now (length out) before in
-        ⌜ Answered result (before, out) r number.NONE (after, answers.new) ⌝ }
+        let wanted = entered_words n clauses lits.now literals ends.now vars.now calls.now (length out) before in
+        Answered wanted (before, out) result number.NONE (after, answers.new) }
 {
     let a = heap_calls::enter(
         n,

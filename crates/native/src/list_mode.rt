@@ -86,7 +86,7 @@ pub extern "C" fn sigvort_list_calls(
     calls: &[u32],
     answers: &mut [u32],
 ) -> u32
-    ensures* { λ r.
+    ensures {
         let before = session_of n clauses lits.now
         values.old levels.old reasons.old trail.old opened.old
         next.old prev.old ts.old (list_state len.old level.old curr_i.old start.old search.old timestamp.old) in
@@ -94,8 +94,8 @@ pub extern "C" fn sigvort_list_calls(
         values.new levels.new reasons.new trail.new opened.new
         next.new prev.new ts.new (list_state len.new level.new curr_i.new start.new search.new timestamp.new) in
         let out = answers.old in
-        let result = entered_words n clauses lits.now literals ends.now vars.now calls.now (length out) before in
-        ⌜ Answered result (before, out) r number.NONE (after, answers.new) ⌝ }
+        let wanted = entered_words n clauses lits.now literals ends.now vars.now calls.now (length out) before in
+        Answered wanted (before, out) result number.NONE (after, answers.new) }
 {
     let a = list_calls::enter(
         n,

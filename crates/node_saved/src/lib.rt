@@ -28,11 +28,11 @@ pub fn save(
     s: ListState,
     text: &mut [u8],
 ) -> TextAnswer
-    ensures* { λ r.
+    ensures {
         let before = session_of n clauses lits.now values.now levels.now reasons.now trail.now opened.now (nexts nodes.now) (prevs nodes.now) (tss nodes.now) s in
         let mode = list_mode n clauses lits.now in
-        let result = entry.wrote n clauses mode lits.now literals ends.now (λ u. saved_list n lits.now ends.now u.trail u.chooser) before text.old in
-        ⌜ Answered result text.old r.status r.reply text.new ⌝ }
+        let wanted = entry.wrote n clauses mode lits.now literals ends.now (λ u. saved_list n lits.now ends.now u.trail u.chooser) before text.old in
+        Answered wanted text.old result.status result.reply text.new }
 {
     let k = room_for(nodes.len());
     let mut next = [0u32; ROOM];
