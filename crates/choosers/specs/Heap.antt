@@ -63,7 +63,7 @@ module _ {n : ℕ} {values : List ℕ} {on : ℕ → Bool} (h : Vsids) (q : Heap
 
   next_ok : (r : Found) → Right n values h r → NextRight n values on (HeapOk n) (next_of r)
   next_ok (vsids.chose v h') r =
-      let o = open_on v r.var r.is_open in
+      let o = open_on v r.var r.chosen_open in
       (r.var, o.0, o.1, λ p l. record { good = r.good p l; switched = same_switches r.switches q.switched })
   next_ok (vsids.nothing h') r = ((λ v b o. shut_assigned v b o (r.none v b)), record { good = r.good; switched = same_switches r.switches q.switched })
 

@@ -22,7 +22,7 @@ use Rattle.heap_entry.specs.Entered.{unchecked, bad_refused, entered_good, made_
 -- v is switched on and unassigned, and of all these it has the highest activity, or one of the highest
 pub record Highest (n : ℕ) (values : List ℕ) (h : Vsids) (v : ℕ) : Type 0 where
   pub var : v < n
-  pub is_open : is_open values h.decision v ≡ true
+  pub chosen_open : is_open values h.decision v ≡ true
   pub no_lower : (u : ℕ) → u < n → is_open values h.decision u ≡ true → T (le (get_or h.activity u nan) (get_or h.activity v nan))
 
 module _ (n m : ℕ) (lits : List ℕ) (literals : ℕ) (ends : List ℕ) where
@@ -52,7 +52,7 @@ module _ (n m : ℕ) (lits : List ℕ) (literals : ℕ) (ends : List ℕ) where
         let g = bad_refused n m lits literals ends a s doubles accepted in
         let k = chosen p v (rw (unchecked n m lits literals ends a s g.0 g.1, e) at r) in
         let c = chose_right s.chooser g.0.session.heap k.1 in
-        record { var = c.var; is_open = c.is_open; no_lower = chosen_highest g.0.session.heap c }
+        record { var = c.var; chosen_open = c.chosen_open; no_lower = chosen_highest g.0.session.heap c }
 
   -- and so they are in a fresh session
   pub made_inverse : (s : Session n m (heap_ops n lits ends)) → status (made n m lits literals ends s) ≡ 0 → let u = leaves s (made n m lits literals ends s) in

@@ -254,7 +254,7 @@ module _ (M : Lending → Mode) (into : (g h : Lending) → (M g).ops.State → 
           let same : entered_with g g a r.now ≡ call g.n g.m (M g).ops r.now (asked a) =
           rw (self_mapped, F.self g r.now.chooser) (unchecked g.n g.m (M g) g.lits g.literals g.ends L a r.now (record { founded = f; stated = el; session = good }) z.0) in
           ap (λ (x : Result (SessionOver g)). run_turns g (extended g.n g.m (M g).ops r (asked a) x) (all_lent g asks)) same
-          ∙ along_book _ (L.kept r.now good (asked a)) asks z.1
+          ∙ along_book (step g.n g.m (M g).ops r (asked a)) (L.kept r.now good (asked a)) asks z.1
 
       pub lent_run : (asks : List Asked) → Each RightScratch asks → let start = begin g.n g.m (M g).ops in
           run_turns g start (all_lent g asks) ≡ run g.n g.m (M g).ops start (map asked asks)
@@ -266,7 +266,7 @@ module _ (n m : ℕ) (M : Mode) (lits : List ℕ) (literals : ℕ) (ends : List 
   along_run : (r : Run n m M.ops) (calls : List Call) → L.Good r.now → L.Good (run n m M.ops r calls).now
   unfolding run step
   along_run r [] g = g
-  along_run r (c ∷ calls) g = along_run _ calls (L.kept r.now g c)
+  along_run r (c ∷ calls) g = along_run (step n m M.ops r c) calls (L.kept r.now g c)
 
   pub run_good : (calls : List Call) → L.Good (run n m M.ops (begin n m M.ops) calls).now
   unfolding begin

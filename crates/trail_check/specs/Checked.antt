@@ -119,7 +119,7 @@ module _ (values trail : List ℕ) (len : ℕ) where
       codes_in = λ i h. test.ltb-true _ _ (and_left _ _ (p i h));
       agrees = λ i h. test.eqb-true _ _ (and_left _ _ (and_right (ltb (index (get_or trail i 0)) (length values)) _ (p i h)));
       once = λ i j b h q.
-          let z = test.not_true _ (and_right (lit_sat (get_or trail j 0) values) _ (and_right (ltb (index (get_or trail j 0)) (length values)) _ (p j h))) in
+          let z = test.not-true _ (and_right (lit_sat (get_or trail j 0) values) _ (and_right (ltb (index (get_or trail j 0)) (length values)) _ (p j h))) in
           false≢true (sym z ∙ stands_at trail (index (get_or trail j 0)) j i b q);
     },
     λ r. every_all (place_ok values trail) len (λ i h. and_both (test.lt-ltb _ _ (r.codes_in i h)) (and_both (test.eq-eqb _ _ (r.agrees i h)) (

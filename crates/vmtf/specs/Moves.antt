@@ -3,7 +3,7 @@
 use Prim.Native.Nat.{ℕ, zero, suc, ◌+◌, ◌-◌, ◌<◌, ◌≤◌}
 use Rattle.std.specs.Prelude.{◌≡◌, ◌≢◌, eqb, leb}
 use Rattle.std.proofs.Math.Path.{refl, sym}
-use Rattle.std.proofs.Common.{ap, ◌∙◌, get_or-set_same}
+use Rattle.std.proofs.Common.{ap, subst, ◌∙◌, get_or-set_same}
 use mathlib.Core.List.{List, [], ◌∷◌}
 use native.Mathlib.Omega.{arith}
 use Rattle.std.proofs.Math.ListN.{length, get_or, set, length-set}
@@ -146,8 +146,9 @@ module _ (next : List ℕ) (small : length next ≤ NONE) where
       let t : List ℕ = set ts c k in
       let here : get_or (renumber next (k - 1) (get_or next c 0) t) x 0 ≡ k = first_stamp x xs k c ts h s once within in
       let e : k - 1 + 1 ≡ k = omega arith in
-      rw (renumber_step next k c ts n (omega arith), here)
-      (omega arith, rw e at (renumber_falls xs (k - 1) (get_or next c 0) t (rw h.0 h.2) (omega arith) (λ w. omega (arith, once w, count_more w x xs)) (λ w q. simp length-set (within w (omega (arith, count_more w x xs))))))
+      let now : renumber next k c ts ≡ renumber next (k - 1) (get_or next c 0) t = renumber_step next k c ts n (omega arith) in
+      let rest = renumber_falls xs (k - 1) (get_or next c 0) t (rw h.0 h.2) (omega arith) (λ w. omega (arith, once w, count_more w x xs)) (λ w q. simp length-set (within w (omega (arith, count_more w x xs)))) in
+      subst (λ (r : List ℕ). Falls r (k + 1) (x ∷ xs)) (sym now) (rw here (omega arith), rw here (rw e at rest))
 
   -- each is less by one than the one before it
   renumber_stamps : (o : List ℕ) (k c : ℕ) (ts : List ℕ) → Chain next c o → length o ≤ k → ((w : ℕ) → count w o ≤ 1) → ((w : ℕ) → 0 < count w o → w < length ts)

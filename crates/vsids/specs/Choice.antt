@@ -37,7 +37,7 @@ module _ {n : ℕ} {values : List ℕ} (h : Vsids) (g : GoodHeap n values h) (z 
   unfolding remove_first
   chosen e = record {
     var = g.inverse.room.members 0 z;
-    is_open = e;
+    chosen_open = e;
     highest = top;
     good = λ p b. taken (set values (get_or h.heap 0 0) p) (λ u q. closed values h.decision (get_or h.heap 0 0) p u b q);
     switches = refl;
@@ -46,7 +46,7 @@ module _ {n : ℕ} {values : List ℕ} (h : Vsids) (g : GoodHeap n values h) (z 
 -- what is right after a member is dropped was right before
 lift : (n : ℕ) (values : List ℕ) (h : Vsids) (r : Found) → Right n values (remove_first h) r → Right n values h r
 unfolding remove_first
-lift n values h (chose v h') c = record { var = c.var; is_open = c.is_open; highest = c.highest; good = c.good; switches = c.switches }
+lift n values h (chose v h') c = record { var = c.var; chosen_open = c.chosen_open; highest = c.highest; good = c.good; switches = c.switches }
 lift n values h (nothing h') c = record { none = c.none; good = c.good; switches = c.switches }
 
 one_less : (h : Vsids) (k : ℕ) → h.len ≡ suc k → (remove_first h).len ≡ k
@@ -100,5 +100,5 @@ pub open_none : {n : ℕ} {values : List ℕ} (h : Vsids) → GoodHeap n values 
 open_none {n} {values} h g closed = go (get_next values h) (get_next_right h g)
   where
     go : (r : Found) → Right n values h r → says_none r ≡ true
-    go (chose v h') c = absurd (true≢false (sym c.is_open ∙ closed v c.var))
+    go (chose v h') c = absurd (true≢false (sym c.chosen_open ∙ closed v c.var))
     go (nothing h') c = refl

@@ -1,0 +1,15 @@
+use Prim.Native.Nat.{◌≤◌, ◌<◌, ◌-◌}
+use mathlib.Core.Path.{◌≡◌, refl, ◌∙◌}
+use native.Mathlib.Omega.{arith}
+use borrow.Author.Rules.{rules}
+use lib.ListN.{length, length-set}
+use lib.Ieee.{nan}
+use Rattle.laws.specs.InPlace.{mapped, mapped_at, mapped_next, mapped_end}
+use Rattle.activity.specs.Step.{scale}
+use Rattle.activity.proofs.scale_all.Given as goal
+
+abbrev pub invariant-loop-i : goal.invariant-loop-i
+invariant-loop-i l = (l.i ≤ length l.initial.activity) × (length l.activity ≡ length l.initial.activity) × (l.activity ≡ mapped scale l.initial.activity l.i)
+
+abbrev pub decreases-loop-i : goal.decreases-loop-i
+decreases-loop-i l = length l.initial.activity - l.i

@@ -1,0 +1,27 @@
+use Prim.Native.Nat.{ℕ, ◌+◌, ◌-◌, ◌≤◌, ◌<◌}
+use mathlib.Core.Path.{◌≡◌, refl, sym, ◌∙◌}
+use mathlib.Core.Bool.{not, cond}
+use mathlib.Core.List.{List}
+use native.Mathlib.Omega.{arith}
+use borrow.Author.Rules.{rules}
+use borrow.Author.Tests.{eq-eqb, ne_eqb}
+use lib.ListN.{length, drop, drop_of_length-le}
+use lib.Dec.{eqb}
+use Rattle.lit.specs.Numbers.{max_vars}
+use Rattle.formula.specs.declared.checks.SatResult.TheVariants.{Err, Unsat, Unknown}
+use Rattle.formula.specs.Clauses.{clause, clauses}
+use Rattle.formula.specs.Reading.{clause_at, length_clauses, drop_clauses}
+use Rattle.formula.specs.Checks.{check_clause_invariant, check_each}
+use Rattle.formula.specs.Marks.{Unmarked, fresh_marks}
+use Rattle.formula.proofs.checks.check_each.Given as goal
+
+-- the answer is that of the clauses from i on
+pub record Rest (n : ℕ) (lits ends : List ℕ) (i : ℕ) : Type 0 where
+  pub within : i ≤ length ends
+  pub rest : check_each n (clauses lits ends) ≡ check_each n (drop i (clauses lits ends))
+
+abbrev pub invariant-loop-i : goal.invariant-loop-i
+invariant-loop-i l = Rest l.n l.lits l.ends l.i × (length l.marks ≡ max_vars) × Unmarked l.n (l.i + 1) l.marks
+
+abbrev pub decreases-loop-i : goal.decreases-loop-i
+decreases-loop-i l = l.count - l.i

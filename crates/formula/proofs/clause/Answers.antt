@@ -1,0 +1,6 @@
+-- `clause`: the part between the two ends.
+use borrow.Author.Rules.{rules}
+use Rattle.formula.proofs.clause.Goals as goal
+
+pub returns : goal.returns
+returns c = rw c.start-from.ensures

@@ -1,0 +1,16 @@
+use Prim.Native.Nat.{◌≤◌, ◌-◌}
+use mathlib.Core.Path.{◌≡◌, sym}
+use mathlib.Core.Logic.{⊎_elim}
+use native.Mathlib.Omega.{arith}
+use borrow.Author.Rules.{rules}
+use borrow.Author.Tests.{lt-ltb, le-ltb, eq-eqb, ne_eqb}
+use lib.ListN.{length}
+use Rattle.laws.specs.Every.{every, every_all, flag_stays, flag_falls}
+use Rattle.lit.specs.Unused.{none_at, unused_ok}
+use Rattle.lit.proofs.unused_ok.Given as goal
+
+abbrev pub invariant-loop-i : goal.invariant-loop-i
+invariant-loop-i l = ((l.used ≤ l.i) × (l.i ≤ length l.a)) × (l.ok ≡ every (none_at l.a l.used) l.i)
+
+abbrev pub decreases-loop-i : goal.decreases-loop-i
+decreases-loop-i l = length l.a - l.i

@@ -1,0 +1,18 @@
+-- `vmtf::check_list` meets its contract: each test that fails decides the definition's.
+use mathlib.Core.Path.{sym, ◌∙◌}
+use borrow.Author.Tests.{eq-eqb, ne_eqb, not-true, not-false}
+use Rattle.vmtf.specs.Vmtf.{check_list}
+use borrow.Author.Rules.{rules}
+use Rattle.vmtf.proofs.check_list.Goals as goal
+
+pub returns-then-not-check_row : goal.returns-then-not-check_row
+unfolding check_list
+returns-then-not-check_row c = rw (sym c.check_row.ensures ∙ c.if-not-check_row.true)
+
+pub returns-then-s-eq-NONE : goal.returns-then-s-eq-NONE
+unfolding check_list
+returns-then-s-eq-NONE c = rw (sym c.check_row.ensures ∙ c.if-not-check_row.false, eq-eqb _ _ c.if-s-eq-NONE.true)
+
+pub returns : goal.returns
+unfolding check_list
+returns c = rw (sym c.check_row.ensures ∙ c.if-not-check_row.false, ne_eqb _ _ c.if-s-eq-NONE.false)

@@ -1,0 +1,16 @@
+use Prim.Native.Nat.{ℕ, ◌≤◌, ◌-◌}
+use mathlib.Core.Path.{refl, sym, ap, ◌∙◌}
+use mathlib.Core.List.{List, []}
+use native.Mathlib.Omega.{arith}
+use borrow.Author.Rules.{rules}
+use lib.ListN.{length, drop_of_length-le}
+use Rattle.vsids.specs.Vsids.{vsids_of, bump_variable, bump_all, bump_reason_literals}
+use Rattle.vsids.proofs.Loops.{Bumping, bumping}
+use Rattle.vsids.proofs.bump_reason_literals.Given as goal
+
+abbrev pub invariant-loop-i : goal.invariant-loop-i
+invariant-loop-i l =
+    (d : List ℕ) → Bumping (length l.initial.activity) l.clause (bump_reason_literals l.clause (vsids_of l.initial.activity l.initial.heap l.initial.indices d l.initial.state)) l.i (vsids_of l.activity l.heap l.indices d l.state)
+
+abbrev pub decreases-loop-i : goal.decreases-loop-i
+decreases-loop-i l = length l.clause - l.i

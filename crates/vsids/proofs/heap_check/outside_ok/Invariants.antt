@@ -1,0 +1,20 @@
+use Prim.Native.Nat.{◌≤◌, ◌-◌}
+use mathlib.Core.Path.{◌≡◌, refl, sym, ◌∙◌}
+use mathlib.Core.Logic.{⊎_elim}
+use native.Mathlib.Omega.{arith}
+use borrow.Author.Rules.{rules}
+use borrow.Author.Tests.{not-true, not-false, eq-eqb, ne_eqb}
+use lib.Dec.{eqb}
+use lib.ListN.{length}
+use Rattle.laws.specs.Every.{every}
+use Rattle.laws.specs.Some.{count, count_one, count_none}
+use Rattle.vsids.specs.Outside.{outside_at, settled_at, outside_ok}
+use Rattle.vsids.proofs.heap_check.Branches.{passes_uncounted, failure_counted}
+use Rattle.vsids.proofs.heap_check.outside_ok.Given as goal
+
+abbrev pub invariant-loop-v : goal.invariant-loop-v
+invariant-loop-v l =
+    ((l.v ≤ length l.indices) × (l.outside ≤ l.v) × («open» ≤ l.v)) × (l.outside ≡ count (outside_at l.indices) l.v) × (eqb «open» 0 ≡ every (settled_at l.values l.indices l.decision) l.v)
+
+abbrev pub decreases-loop-v : goal.decreases-loop-v
+decreases-loop-v l = length l.indices - l.v

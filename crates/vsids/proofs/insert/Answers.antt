@@ -1,0 +1,17 @@
+-- `insert` meets its contract: a member or a variable that is off changes nothing, and `heap::members::insert` does the rest.
+use mathlib.Core.Path.{sym, ◌∙◌}
+use mathlib.Core.Logic.{⊎_elim}
+use borrow.Author.Rules.{rules}
+use borrow.Author.Tests.{not-true, not-false}
+use Rattle.vsids.proofs.Loops.{inserted, member_stays, off_stays}
+use Rattle.vsids.proofs.insert.Goals as goal
+use Rattle.vsids.proofs.insert.Goals.{else-else-not-in_heap, then-else-not-in_heap}
+
+pub insert-requires : goal.insert-requires
+insert-requires c = record { room = c.requires.room; len_in_bounds = (c.requires.len_in_bounds (sym c.in_heap.ensures ∙ c.if-not-in_heap.true), c.requires.var_in_bounds.0) }
+
+pub returns-then-decision-var-eq-ON : goal.returns-then-decision-var-eq-ON
+returns-then-decision-var-eq-ON c = inserted _ _ (sym c.in_heap.ensures ∙ c.if-not-in_heap.true) c.if-decision-var-eq-ON.true c.insert.ensures
+
+pub returns-else-not-in_heap : goal.returns-else-not-in_heap
+returns-else-not-in_heap c = elim c.else-not-in_heap.branch [ then-else-not-in_heap w ↦ off_stays _ _ w.2.left | else-else-not-in_heap w ↦ member_stays _ _ (sym c.in_heap.ensures ∙ not-false _ w.left) ]
