@@ -21,7 +21,7 @@ loop-v-preserved c =
     let a = c.args in
     let p = covered_at a.values.now a.marks.now in
     let t = c.covered.ensures in
-    (omega arith, elim c.if-not-covered.branch [ then-not-covered w ↦ flag_falls p l.v w.ok-is (sym t ∙ not-true _ w.if-not-covered.true) | else-not-covered w ↦ flag_stays p l.v l.invariant.1 w.1 (sym t ∙ not-false _ w.if-not-covered.false) ])
+    (omega arith, elim c.if-not-covered.branch [ then-not-covered w ↦ flag_falls p l.v w.ok-is (sym t ∙ w.if-not-covered.true) | else-not-covered w ↦ flag_stays p l.v l.invariant.1 w.ok-is (sym t ∙ w.if-not-covered.false) ])
 
 pub returns : goal.returns
 unfolding covered_ok

@@ -19,7 +19,7 @@ passes : (c : After-literal_ok) → c.literal_ok.result ≡ place_ok c.args.valu
 passes c = c.literal_ok.ensures ∙ at_place c.loop-i.invariant
 
 passed : (c : Else-not-literal_ok) → place_ok c.args.values.now c.args.trail.now c.loop-i.i ≡ true
-passed c = sym (passes c.before) ∙ c.if-not-literal_ok.false
+passed c = sym (c.literal_ok.ensures ∙ at_place c.loop-i.invariant) ∙ c.if-not-literal_ok.false
 
 pub returns-then-not-literal_ok : goal.returns-then-not-literal_ok
 unfolding places_ok
