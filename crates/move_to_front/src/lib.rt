@@ -1,5 +1,6 @@
 // How the list is made and moved: the moves of variables to the front of the move-to-front list, one by one and as a group.
 #![tactic(auto)]
+
 mod order;
 
 ghost use Rattle.std.specs.Prelude.{◌≡◌, ◌≢◌, List, ℕ, ◌<◌, length, replicate};

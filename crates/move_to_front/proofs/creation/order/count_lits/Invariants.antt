@@ -1,0 +1,22 @@
+use Prim.Native.Nat.{ℕ, zero, suc, ◌+◌, ◌≤◌, ◌<◌, ◌-◌}
+use mathlib.Core.Path.{◌≡◌, refl, sym, ◌∙◌}
+use mathlib.Core.List.{List}
+use native.Mathlib.Omega.{arith}
+use borrow.Author.Rules.{rules}
+use lib.ListN.{length, get_or, drop, replicate, length-set}
+use Rattle.laws.specs.Lists.{set_cases}
+use Rattle.vmtf.specs.Vmtf.{count_lits}
+use Rattle.vmtf.specs.Laws.{count_step, count_end}
+use Rattle.move_to_front.proofs.creation.order.count_lits.Given as goal
+
+pub record Counting (codes : List ℕ) (n : ℕ) (goal : List ℕ) (i : ℕ) (counts : List ℕ) : Type 0 where
+  pub at : i ≤ length codes
+  pub long : length counts ≡ n
+  pub below : (v : ℕ) → get_or counts v 0 ≤ i
+  pub rest : count_lits counts (drop i codes) ≡ goal
+
+abbrev pub invariant-loop-i : goal.invariant-loop-i
+invariant-loop-i l = Counting l.codes (length l.initial.counts) (count_lits l.initial.counts l.codes) l.i l.counts
+
+abbrev pub decreases-loop-i : goal.decreases-loop-i
+decreases-loop-i l = length l.codes - l.i

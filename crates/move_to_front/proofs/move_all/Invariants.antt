@@ -1,0 +1,20 @@
+use Prim.Native.Nat.{ℕ, ◌≤◌, ◌<◌, ◌-◌}
+use mathlib.Core.Path.{◌≡◌, refl, sym, ◌∙◌}
+use mathlib.Core.List.{List}
+use native.Mathlib.Omega.{arith}
+use borrow.Author.Rules.{rules}
+use lib.ListN.{length, drop}
+use Rattle.vmtf.specs.Vmtf.{Vmtf, vmtf_of, move_all, Safe}
+use Rattle.vmtf.specs.Laws.{moves_step, moves_end, move_safe}
+use Rattle.move_to_front.proofs.move_all.Given as goal
+
+pub record Moving (vars : List ℕ) (n : ℕ) (goal : Vmtf) (i : ℕ) (l : Vmtf) : Type 0 where
+  pub at : i ≤ length vars
+  pub safe : Safe n l
+  pub rest : move_all (drop i vars) l ≡ goal
+
+abbrev pub invariant-loop-k : goal.invariant-loop-k
+invariant-loop-k l = Moving l.vars (length l.initial.next) (move_all l.vars (vmtf_of l.initial.next l.initial.prev l.initial.ts l.initial.state)) l.k (vmtf_of l.next l.prev l.ts l.state)
+
+abbrev pub decreases-loop-k : goal.decreases-loop-k
+decreases-loop-k l = length l.vars - l.k
