@@ -1,5 +1,6 @@
 // The heap chooser: JigSAT's `VSIDS` over lent slices, with the count of members and the step by value.
 #![tactic(auto)]
+
 ghost use Rattle.std.specs.Prelude.{◌≡◌, List, false, ℕ, ◌<◌, ◌≤◌, Float, length, get_or, replicate};
 ghost use Rattle.lit.specs.Numbers.{max_vars, switched_on};
 ghost use Rattle.lit.specs.Lits.{index};

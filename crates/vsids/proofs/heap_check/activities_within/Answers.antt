@@ -27,7 +27,7 @@ loop-v-preserved c =
     let t = c.within.ensures in (
       omega arith,
       elim c.if-not-within.branch [ then-not-within w ↦ omega (arith, w.outside-is, l.invariant.1) | else-not-within w ↦ omega (arith, w.outside-is, l.invariant.1) ],
-      elim c.if-not-within.branch [ then-not-within w ↦ failure_counted p l.v l.outside w.outside-is (sym t ∙ not-true _ w.if-not-within.true) | else-not-within w ↦ passes_uncounted p l.v l.invariant.2 w.1 (sym t ∙ not-false _ w.if-not-within.false) ],
+      elim c.if-not-within.branch [ then-not-within w ↦ failure_counted p l.v l.outside w.outside-is (sym t ∙ w.if-not-within.true) | else-not-within w ↦ passes_uncounted p l.v l.invariant.2 w.outside-is (sym t ∙ w.if-not-within.false) ],
     )
 
 pub returns : goal.returns

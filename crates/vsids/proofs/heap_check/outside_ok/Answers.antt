@@ -37,11 +37,11 @@ loop-v-preserved c =
     let t = c.settled.ensures in (
       (
         omega arith,
-        elim c.if-indices-v.branch [ then-indices-v w ↦ omega (arith, w.1, l.invariant.0.1) | else-indices-v w ↦ omega (arith, w.1, l.invariant.0.1) ],
-        elim c.if-not-settled.branch [ then-not-settled w ↦ omega (arith, w.1, l.invariant.0.2) | else-not-settled w ↦ omega (arith, w.1, l.invariant.0.2) ],
+        elim c.if-indices-v.branch [ then-indices-v w ↦ omega (arith, w.outside-is, l.invariant.0.1) | else-indices-v w ↦ omega (arith, w.outside-is, l.invariant.0.1) ],
+        elim c.if-not-settled.branch [ then-not-settled w ↦ omega (arith, w.open-is, l.invariant.0.2) | else-not-settled w ↦ omega (arith, w.open-is, l.invariant.0.2) ],
       ),
-      elim c.if-indices-v.branch [ then-indices-v w ↦ omega (arith, w.1, l.invariant.1, count_one p l.v (eq-eqb _ _ w.if-indices-v.true)) | else-indices-v w ↦ omega (arith, w.1, l.invariant.1, count_none p l.v (ne_eqb _ _ w.if-indices-v.false)) ],
-      elim c.if-not-settled.branch [ then-not-settled w ↦ failure_counted q l.v l.«open» w.1 (sym t ∙ not-true _ w.if-not-settled.true) | else-not-settled w ↦ passes_uncounted q l.v l.invariant.2 w.1 (sym t ∙ not-false _ w.if-not-settled.false) ],
+      elim c.if-indices-v.branch [ then-indices-v w ↦ omega (arith, w.outside-is, l.invariant.1, count_one p l.v (eq-eqb _ _ w.if-indices-v.true)) | else-indices-v w ↦ omega (arith, w.outside-is, l.invariant.1, count_none p l.v (ne_eqb _ _ w.if-indices-v.false)) ],
+      elim c.if-not-settled.branch [ then-not-settled w ↦ failure_counted q l.v l.«open» w.open-is (sym t ∙ w.if-not-settled.true) | else-not-settled w ↦ passes_uncounted q l.v l.invariant.2 w.open-is (sym t ∙ w.if-not-settled.false) ],
     )
 
 pub overflow_cast-result : goal.overflow_cast-result

@@ -14,7 +14,7 @@ use Rattle.vsids.proofs.heap_check.outside_ok.Given as goal
 
 abbrev pub invariant-loop-v : goal.invariant-loop-v
 invariant-loop-v l =
-    ((l.v ≤ length l.indices) × (l.outside ≤ l.v) × («open» ≤ l.v)) × (l.outside ≡ count (outside_at l.indices) l.v) × (eqb «open» 0 ≡ every (settled_at l.values l.indices l.decision) l.v)
+    ((l.v ≤ length l.indices) × (l.outside ≤ l.v) × (l.«open» ≤ l.v)) × (l.outside ≡ count (outside_at l.indices) l.v) × (eqb l.«open» 0 ≡ every (settled_at l.values l.indices l.decision) l.v)
 
 abbrev pub decreases-loop-v : goal.decreases-loop-v
 decreases-loop-v l = length l.indices - l.v
