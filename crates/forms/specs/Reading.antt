@@ -300,11 +300,11 @@ room_left v i h b =
     omega arith
 
 -- the patterns of a NaN: those above an infinity's, the sign aside
-is_nan : (x : Float) → is_nan x ≡ true → x ≡ nan
+nan_itself : (x : Float) → is_nan x ≡ true → x ≡ nan
 unfolding is_nan
-is_nan nan e = refl
-is_nan (inf s) e = absurd (false≢true e)
-is_nan (fin s m k) e = absurd (false≢true e)
+nan_itself nan e = refl
+nan_itself (inf s) e = absurd (false≢true e)
+nan_itself (fin s m k) e = absurd (false≢true e)
 
 abbrev pub infinity : ℕ
 infinity = 9218868437227405312
@@ -317,7 +317,7 @@ unfolding div of_bits
 no_number = refl
 
 pub nan_pattern : (p : ℕ) → infinity < p % sign → of_bits binary64 p ≡ nan
-nan_pattern p h = is_nan (of_bits binary64 p) (sym (nan_bits_is binary64 p) ∙ nan_bits_above binary64 p ∙ lt-ltb infinity (p % sign) h)
+nan_pattern p h = nan_itself (of_bits binary64 p) (sym (nan_bits_is binary64 p) ∙ nan_bits_above binary64 p ∙ lt-ltb infinity (p % sign) h)
 
 pub no_nan : (p : ℕ) → p % sign ≤ infinity → T (not (nan_bits binary64 p))
 no_nan p h = rw (nan_bits_above binary64 p, le-ltb infinity (p % sign) h) tt

@@ -312,7 +312,7 @@ module _ (j top : ℕ) (room : top < 10 ^ suc (suc j)) where
       let digit : is_digit b ≡ true = and_left (is_digit b) (not (b == digit_zero)) first in
       let low : digit_zero ≤ b = leb-true digit_zero b (and_left (nat_le digit_zero b) (nat_le b digit_nine) digit) in
       let high : b ≤ digit_nine = leb-true b digit_nine (and_right (nat_le digit_zero b) (nat_le b digit_nine) digit) in
-      let other : b ≢ digit_zero = eqb-false b digit_zero (tests.not_true (b == digit_zero) (and_right (is_digit b) (not (b == digit_zero)) first)) in
+      let other : b ≢ digit_zero = eqb-false b digit_zero (tests.not-true (b == digit_zero) (and_right (is_digit b) (not (b == digit_zero)) first)) in
       let v = 0 * 10 + (b - digit_zero) in
       let same : digit_zero + v ≡ b = omega arith in
       decimals_decimal v (c ∷ bs) (omega arith) (and_right (is_digit b && not (b == digit_zero)) rest d) h ∙ rw (decimals_one j v (omega arith), same)

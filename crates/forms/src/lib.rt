@@ -1,5 +1,6 @@
 // The forms of a sheet's lines: the first byte's kind by a table, the calls, the codes of a clause line, and the first line.
 #![tactic(auto)]
+
 pub mod table;
 
 ghost use Rattle.std.specs.Prelude.{◌≡◌, ℕ, List, drop, slice_set};

@@ -1,0 +1,56 @@
+-- `forms::read_enqueue` meets its contract: the second tab lies between the code and the reason.
+use Rattle.std.proofs.Common.{◌+◌, ◌-◌, ◌<◌, ◌≤◌, length, take, drop, sym, ◌∙◌, arith, rules}
+use Rattle.forms.specs.Text.{number}
+use Rattle.forms.specs.Forms.{enqueue_in, reason_in}
+use Rattle.laws.specs.Parts.{to_end}
+use Rattle.forms.specs.Lines.{second_range, two_none, two_behind, enqueue_tab}
+use Rattle.forms.specs.Told.{whole_is, whole_bad}
+use Rattle.forms.proofs.read_enqueue.Goals as goal
+use Rattle.forms.proofs.read_enqueue.Goals.{Else-end-line}
+
+-- where the second tab lies
+range : (c : Else-end-line) → (2 ≤ c.second_tab-end.result) × (c.second_tab-end.result < length c.args.line.now)
+range c = second_range c.args.line.now c.second_tab-end.ensures c.if-end-line.false
+
+pub returns-then-end-line : goal.returns-then-end-line
+returns-then-end-line c = rw (two_none c.args.line.now c.second_tab-end.ensures enqueue_in c.if-end-line.true)
+
+pub slice_bounds-number-count : goal.slice_bounds-number-count
+slice_bounds-number-count c = (range c).0
+
+pub slice_bounds-number-start : goal.slice_bounds-number-start
+slice_bounds-number-start c = (range c).0
+
+pub slice_bounds-number-end : goal.slice_bounds-number-end
+slice_bounds-number-end c = let h = (range c).1 in omega arith
+
+pub returns-in_default : goal.returns-in_default
+returns-in_default c =
+    let line = c.args.line.now in
+    let end = c.second_tab-end.result in
+    rw (two_behind line c.second_tab-end.ensures enqueue_in enqueue_tab c.if-end-line.false, whole_bad (number (take (end - 2) (drop 2 line))) (sym c.number.ensures ∙ c.in_default.is))
+
+pub overflow_add-end : goal.overflow_add-end
+overflow_add-end c = omega (arith, range (goal.at.overflow_add-end c).Else-end-line, c.well_formed)
+
+pub slice_bounds-read_reason-count : goal.slice_bounds-read_reason-count
+slice_bounds-read_reason-count c = omega (arith, range (goal.at.slice_bounds-read_reason-count c).Else-end-line)
+
+pub slice_bounds-read_reason-start : goal.slice_bounds-read_reason-start
+slice_bounds-read_reason-start c =
+    let h : c.second_tab-end.result + 1 ≤ length c.args.line.now = omega (arith, range (goal.at.slice_bounds-read_reason-start c).Else-end-line) in
+    h
+
+pub returns-in_default-read_reason : goal.returns-in_default-read_reason
+returns-in_default-read_reason c =
+    let line = c.args.line.now in
+    let end = c.second_tab-end.result in
+    let bad = whole_bad (reason_in (drop (end + 1) line)) (sym (c.read_reason.ensures ∙ rw (to_end (end + 1) line)) ∙ c.in_default-read_reason.is) in
+    rw (two_behind line c.second_tab-end.ensures enqueue_in enqueue_tab c.if-end-line.false, whole_is (number (take (end - 2) (drop 2 line))) (sym c.number.ensures ∙ c.in-Is.is), bad)
+
+pub returns : goal.returns
+returns c =
+    let line = c.args.line.now in
+    let end = c.second_tab-end.result in
+    let is = whole_is (reason_in (drop (end + 1) line)) (sym (c.read_reason.ensures ∙ rw (to_end (end + 1) line)) ∙ c.in-Is-read_reason.is) in
+    rw (two_behind line c.second_tab-end.ensures enqueue_in enqueue_tab c.if-end-line.false, whole_is (number (take (end - 2) (drop 2 line))) (sym c.number.ensures ∙ c.in-Is.is), is)

@@ -1,0 +1,10 @@
+use Rattle.std.proofs.Common.{◌≡◌, ◌+◌, ◌-◌, ◌≤◌, length, drop, ⊎_elim, arith, rules}
+use Rattle.forms.specs.Text.{occurs}
+use Rattle.forms.specs.Reading.{occurs_other, occurs_same, occurs_end}
+use Rattle.forms.proofs.text.occurs_in_block.Given as goal
+
+abbrev pub invariant-loop-i : goal.invariant-loop-i
+invariant-loop-i l = (l.i ≤ length l.bytes) × ((l.count ≤ l.i) × (occurs l.b l.bytes ≡ l.count + occurs l.b (drop l.i l.bytes)))
+
+abbrev pub decreases-loop-i : goal.decreases-loop-i
+decreases-loop-i l = length l.bytes - l.i
