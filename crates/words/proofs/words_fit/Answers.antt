@@ -8,8 +8,7 @@ use borrow.Author.Rules.{rules}
 use Rattle.laws.specs.Tests.{same_test}
 use Rattle.words.specs.Words.{words_fit}
 use Rattle.words.specs.Entered.{thirds}
-use Rattle.words.proofs.words_fit.Statement.{statement}
-use Rattle.words.proofs.words_fit.Tie as tie
+use Rattle.words.proofs.words_fit.Goals as goal
 
 in-thirds : (a b : ℕ) → a ≡ a / 3 * 3 → eqb b (a / 3 * 2) ≡ words_fit a b
 in-thirds a b e = same_test (eqb b (a / 3 * 2)) (eqb (a * 2) (b * 3))
@@ -19,11 +18,8 @@ in-thirds a b e = same_test (eqb b (a / 3 * 2)) (eqb (a * 2) (b * 3))
 no-thirds : (a b : ℕ) → (a ≡ a / 3 * 3 → ⊥) → eqb a (a / 3 * 3) ≡ words_fit a b
 no-thirds a b n = ne_eqb a (a / 3 * 3) n ∙ sym (ne_eqb (a * 2) (b * 3) (λ e. n (thirds a b e).0))
 
-returns : tie.Need-returns
-returns c = in-thirds c.before.args.calls c.before.args.answers c.if1.true
+pub returns-then-calls-k : goal.returns-then-calls-k
+returns-then-calls-k c = in-thirds c.args.calls c.args.answers c.if-calls-k.true
 
-returns-2 : tie.Need-returns-2
-returns-2 c = no-thirds c.before.args.calls c.before.args.answers c.if1.false
-
-pub words-fit-spec : {M : Type 1} → statement M
-words-fit-spec = tie.close (tie.spec (λ c. search rules) (λ c. search rules) returns returns-2)
+pub returns-else-calls-k : goal.returns-else-calls-k
+returns-else-calls-k c = no-thirds c.args.calls c.args.answers c.if-calls-k.false
