@@ -4,9 +4,6 @@ use borrow.Author.Rules.{rules}
 use Rattle.vsids.proofs.heap_check.Branches.{member_large, member_other, member_own}
 use Rattle.vsids.proofs.heap_check.member_ok.Goals as goal
 
-pub overflow_cast-x : goal.overflow_cast-x
-overflow_cast-x c = omega (arith, c.shared_slice_known-4-1.given c.args.i)
-
 pub returns-then-activity-x : goal.returns-then-activity-x
 returns-then-activity-x c = member_large _ _ _ _ (omega arith)
 

@@ -7,14 +7,7 @@ use lib.ListN.{get_or}
 use borrow.Author.Rules.{rules}
 use Rattle.vsids.proofs.heap_check.Branches.{open_barred, member_passes, off_passes}
 use Rattle.vsids.proofs.heap_check.settled.Goals as goal
-use Rattle.vsids.proofs.heap_check.settled.Goals.{After-shared_slice_known-3-1, else-decision-v-eq-ON, else-indices-v, then-decision-v-eq-ON, then-indices-v}
-
--- a value is a byte
-byte : (c : After-shared_slice_known-3-1) → let a = c.args in get_or a.values.now a.v 0 < 256
-byte c = (c.shared_slice_known-3-1.given c.args.v).fits
-
-pub overflow_cast-result : goal.overflow_cast-result
-overflow_cast-result c = omega (arith, byte c)
+use Rattle.vsids.proofs.heap_check.settled.Goals.{else-decision-v-eq-ON, else-indices-v, then-decision-v-eq-ON, then-indices-v}
 
 pub returns : goal.returns
 returns c =
@@ -22,4 +15,4 @@ returns c =
     let xs = a.values.now in
     let is = a.indices.now in
     let ds = a.decision.now in
-    elim c.if-decision-v-eq-ON.branch [ then-decision-v-eq-ON w ↦ elim c.if-indices-v.branch [ then-indices-v u ↦ open_barred xs is ds a.v (w.bar-is ∙ u.outside-is) u.if-indices-v.true w.if-decision-v-eq-ON.true | else-indices-v u ↦ member_passes xs is ds a.v (omega (arith, byte c, w.bar-is, u.outside-is)) u.if-indices-v.false ] | else-decision-v-eq-ON w ↦ off_passes xs is ds a.v (omega (arith, byte c, w.bar-is)) w.if-decision-v-eq-ON.false ]
+    elim c.if-decision-v-eq-ON.branch [ then-decision-v-eq-ON w ↦ elim c.if-indices-v.branch [ then-indices-v u ↦ open_barred xs is ds a.v (w.bar-is ∙ u.outside-is) u.if-indices-v.true w.if-decision-v-eq-ON.true | else-indices-v u ↦ member_passes xs is ds a.v (omega (arith, c.type_inv.values c.args.v, w.bar-is, u.outside-is)) u.if-indices-v.false ] | else-decision-v-eq-ON w ↦ off_passes xs is ds a.v (omega (arith, c.type_inv.values c.args.v, w.bar-is)) w.if-decision-v-eq-ON.false ]
