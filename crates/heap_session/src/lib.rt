@@ -1,5 +1,6 @@
 // The calls in heap mode: the trail and the heap of VSIDS over lent slices, by subject.
 #![tactic(auto)]
+
 ghost use Rattle.std.specs.Prelude.{◌≡◌};
 ghost use Rattle.lit.specs.Numbers as number;
 ghost use Rattle.heap_session.specs.Memory.{answer};

@@ -1,0 +1,15 @@
+-- `heap_session::order::group` meets its contract: by its test.
+use mathlib.Core.Path.{refl, sym, ◌∙◌}
+use borrow.Author.Tests.{not-true, not-false}
+use Rattle.book.specs.Session.{call, tuned}
+use Rattle.session.specs.Outcomes.{failed, passed, finished}
+use borrow.Author.Rules.{rules}
+use Rattle.heap_session.proofs.order.group.Goals as goal
+
+pub returns-then-not-vars_below : goal.returns-then-not-vars_below
+unfolding call
+returns-then-not-vars_below c = λ m lits ends values levels reasons trail opened a h p d. rw c.refuse.ensures (failed _ (sym c.vars_below.ensures ∙ c.if-not-vars_below.true))
+
+pub returns : goal.returns
+unfolding call tuned
+returns c = λ m lits ends values levels reasons trail opened a h p d. rw c.accept.ensures (passed _ _ (sym c.vars_below.ensures ∙ c.if-not-vars_below.false) (finished refl))
