@@ -1,5 +1,6 @@
 // Lists of calls in heap mode: the memory that was lent is checked once, then the calls are done and answered one after another.
 #![tactic(auto)]
+
 ghost use Rattle.std.specs.Prelude.{◌≡◌, ◌+◌, ◌*◌, ◌≤◌, length};
 ghost use Rattle.trail.specs.Memory.{trail_of};
 ghost use Rattle.vsids.specs.Vsids.{vsids_of};
@@ -43,8 +44,7 @@ fn words_call(
     requires { let t = trail_of values.old levels.old reasons.old trail.old opened.old s.trail in
         let h = vsids_of activity.old heap.old indices.old decision.old s.vsids in
         GoodSession n m lits.now ends.now t h }
-    ensures {
-        let before = session_of n m lits.now ends.now
+    ensures { let before = session_of n m lits.now ends.now
         values.old levels.old reasons.old trail.old opened.old
         activity.old heap.old indices.old decision.old s in
         let after = session_of n m lits.now ends.now
@@ -196,8 +196,7 @@ pub fn enter(
     calls: &[u32],
     answers: &mut [u32],
 ) -> HeapAnswer
-    ensures {
-        let before = session_of n clauses lits.now ends.now
+    ensures { let before = session_of n clauses lits.now ends.now
         values.old levels.old reasons.old trail.old opened.old
         activity.old heap.old indices.old decision.old s in
         let after = session_of n clauses lits.now ends.now

@@ -25,7 +25,7 @@ step-requires c =
     let g = admitted n m (heap_mode n m lits ends) lits a.literals ends (heap_sound n m lits ends)
     (asks a.call a.vars.now a.stamps.now a.order.now)
     (session_of n m lits ends a.values.now a.levels.now a.reasons.now a.trail.now a.opened.now a.activity.now a.heap.now a.indices.now a.decision.now a.s)
-    (λ v b. c.slice_known-6-1.given v)
+    (λ v b. search rules)
     (sym c.if-k-ne0.false ∙ (rw c.scratch_ok-scratch.ensures at c.refusal-k.ensures)) in
     g.0.session
 
