@@ -1,5 +1,6 @@
 // The calls in list mode: the trail and the move-to-front list over lent slices, each call with what it answers.
 #![tactic(auto)]
+
 ghost use Rattle.std.specs.Prelude.{◌≡◌, cond, List, ℕ, ◌≤◌, length, eqb};
 ghost use Rattle.lit.specs.Numbers as number;
 ghost use Rattle.trail.specs.Memory.{trail_of};
