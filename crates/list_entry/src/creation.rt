@@ -47,8 +47,7 @@ pub fn fresh(
     counts: &mut [u32],
     indexes: &mut [u32],
 ) -> ListAnswer
-    ensures fact {
-        let before = session_of n clauses lits.now
+    ensures fact { let before = session_of n clauses lits.now
         values.old levels.old reasons.old trail.old opened.old
         next.old prev.old ts.old blank in
         let after = session_of n clauses lits.now

@@ -1,5 +1,6 @@
 // The entry points in list mode: a session's calls, and its creation. They check the memory that was lent, and ask nothing of their callers.
 #![tactic(auto)]
+
 ghost use Rattle.std.specs.Prelude.{◌≡◌};
 ghost use Rattle.formula.specs.Clauses.{clauses_ok};
 ghost use Rattle.vmtf.specs.Vmtf.{vmtf_of};
