@@ -1,0 +1,17 @@
+-- `saved_text::writing::reason_length` meets its contract: the dash is one byte, and a whole number's digits are those of 64 bits.
+use mathlib.Core.Path.{ap, ◌∙◌}
+use borrow.Author.Tests.{eq-eqb, ne_eqb}
+use lib.ListN.{length}
+use Rattle.forms.specs.TextLaws.{whole_digits}
+use Rattle.forms.specs.Spelling.{reason_text}
+use borrow.Author.Rules.{rules}
+use Rattle.saved_text.proofs.writing.reason_length.Goals as goal
+
+pub returns-then-v : goal.returns-then-v
+unfolding reason_text
+returns-then-v c = rw (eq-eqb _ _ c.if-v.true)
+
+pub returns : goal.returns
+unfolding reason_text
+returns c =
+    c.digit_count.ensures ∙ rw (ne_eqb _ _ c.if-v.false) (ap length (whole_digits c.args.v c.requires))
