@@ -6,7 +6,7 @@ use Rattle.laws.specs.Tests.{same_test}
 use Rattle.trail.specs.Trail.{Trail}
 use Rattle.trail.specs.Memory.{Sized}
 use Rattle.trail_check.specs.Check.{trail_ok}
-use Rattle.trail_check.specs.Checked.{trail_right}
+use Rattle.trail_check.proofs.Checked.{trail_right}
 use Rattle.choosers.specs.Heap.{heap_ops}
 use Rattle.choosers.specs.List.{list_ops}
 use Rattle.book.specs.Saved.{forgot}

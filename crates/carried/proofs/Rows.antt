@@ -19,7 +19,8 @@ use Rattle.session.specs.Asked.{Asked, asked, Lending}
 use Rattle.session.specs.Entry.{sizes_checked, checked}
 use Rattle.session.specs.Mode.{Mode, scratch_ok, lengths_ok, entered, entered_list}
 use Rattle.session.specs.Sizes.{sizes_right}
-use Rattle.session.specs.Runs.{SessionOver, moved, gone_on, Turn, single, listed, saved, propagated, with_curr, turn, run_turns, Family, turns_term3}
+use Rattle.session.specs.Runs.{SessionOver, moved, gone_on, Turn, single, listed, saved, propagated, with_curr, turn, run_turns, Family}
+use Rattle.session.proofs.Runs.{turns_term3}
 use Rattle.carried.specs.Same.{SameTrail, Same, SameResult, Alike}
 use Rattle.carried.specs.Rows.{unsaved, EnteredSame, ListsSame, SavesUnseen, BackOverSave}
 use Rattle.carried.proofs.Trails.{Facts, facts, same_refl, same_trans, forgot_same}

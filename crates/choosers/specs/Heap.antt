@@ -16,8 +16,8 @@ use Rattle.activity.specs.Step.{large_step}
 use Rattle.vsids.specs.Vsids.{Vsids, new, turn_off, is_on, is_open, Found}
 use Rattle.vsids.specs.Vsids as vsids
 use Rattle.vsids.specs.Good.{GoodHeap, Right}
-use Rattle.vsids.specs.Kept as kept
-use Rattle.vsids.specs.Choice.{get_next_right}
+use Rattle.vsids.proofs.Kept as kept-laws
+use Rattle.vsids.proofs.Choice.{get_next_right}
 use Rattle.book.specs.Book.{without}
 use Rattle.book.specs.Chooser.{Tune, bump_variable, decay_var_inc, set_var_decay, bump_reason_literals, bump_vec_of_vars, fits, Next, chose, nothing, NextRight, IfSome, Operations, Chooser}
 
@@ -71,12 +71,12 @@ pub heap_chooser : (n : ℕ) (lits ends : List ℕ) → n ≤ max_vars → GoodC
 unfolding fits new turn_off
 heap_chooser n lits ends small g = record {
   ok = HeapOk n;
-  start_ok = record { good = kept.new_ok n small; switched = started };
+  start_ok = record { good = kept-laws.new_ok n small; switched = started };
   tune_ok = λ t c f q. tuned t c f q;
-  insert_ok = λ v c b q. record { good = kept.offer_ok v c b q.good; switched = same_switches (kept.insert_switches v c) q.switched };
-  offer_ok = λ v c b q. record { good = kept.undo_ok v c b q.good; switched = same_switches (kept.insert_switches v c) q.switched };
-  turn_off_ok = λ v c b q. record { good = kept.off_ok v c q.good; switched = off_switched c.decision v q.good.switches b q.switched };
-  assign_ok = λ v p c b k q. record { good = kept.assign_ok v p c k q.good; switched = q.switched };
+  insert_ok = λ v c b q. record { good = kept-laws.offer_ok v c b q.good; switched = same_switches (kept-laws.insert_switches v c) q.switched };
+  offer_ok = λ v c b q. record { good = kept-laws.undo_ok v c b q.good; switched = same_switches (kept-laws.insert_switches v c) q.switched };
+  turn_off_ok = λ v c b q. record { good = kept-laws.off_ok v c q.good; switched = off_switched c.decision v q.good.switches b q.switched };
+  assign_ok = λ v p c b k q. record { good = kept-laws.assign_ok v p c k q.good; switched = q.switched };
   get_next_ok = λ c {values} {on} q. next_ok c q (vsids.get_next values c) (get_next_right c q.good);
 }
   where
@@ -88,18 +88,18 @@ heap_chooser n lits ends small g = record {
     started v b = eq-eqb _ _ (get_or-replicate n v switched_on 0 b)
 
     tuned : (t : Tune) (c : Vsids) {values : List ℕ} {on : ℕ → Bool} → fits n (length ends) t ≡ true → HeapOk n values on c → IfSome (HeapOk n values on) (tune lits ends t c)
-    tuned (bump_variable v) c f q = record { good = kept.bump_ok v c (ltb-true v n f) q.good; switched = same_switches (kept.bump_switches v c) q.switched }
+    tuned (bump_variable v) c f q = record { good = kept-laws.bump_ok v c (ltb-true v n f) q.good; switched = same_switches (kept-laws.bump_switches v c) q.switched }
     tuned decay_var_inc c f q =
         true_or_false (large_step c.step)
         (λ e. rw e tt)
-        (λ e. rw e (record { good = kept.decay_ok c e q.good; switched = q.switched }))
-    tuned (set_var_decay d) c f q = record { good = kept.set_decay_ok d c (rw f) q.good; switched = q.switched }
+        (λ e. rw e (record { good = kept-laws.decay_ok c e q.good; switched = q.switched }))
+    tuned (set_var_decay d) c f q = record { good = kept-laws.set_decay_ok d c (rw f) q.good; switched = q.switched }
     tuned (bump_reason_literals r) c f q =
         true_or_false (eqb r NONE)
         (λ e. rw e q)
         (λ e. rw e (record {
-          good = kept.bump_all_ok (drop 1 (clause lits ends r)) c (in_reason r (ltb-true r (length ends) (rw e at f))) q.good;
-          switched = same_switches (kept.bump_all_switches (drop 1 (clause lits ends r)) c) q.switched;
+          good = kept-laws.bump_all_ok (drop 1 (clause lits ends r)) c (in_reason r (ltb-true r (length ends) (rw e at f))) q.good;
+          switched = same_switches (kept-laws.bump_all_switches (drop 1 (clause lits ends r)) c) q.switched;
         }))
     tuned (bump_vec_of_vars vs) c f q = q
 

@@ -9,7 +9,7 @@ use Rattle.choosers.specs.Heap.{heap_ops, heap_chooser, heap_ok, ok_heap}
 use Rattle.book.specs.Calls.{Call}
 use Rattle.book.specs.Chooser.{Chooser}
 use Rattle.book.specs.Session.{Session, leaves, fresh, call}
-use Rattle.session.specs.Kept as either
+use Rattle.session.proofs.Kept as either-laws
 use Rattle.heap_session.specs.Good.{GoodSession}
 use Rattle.heap_session.specs.Check.{fresh_session}
 
@@ -38,7 +38,7 @@ module _ (n m : ℕ) (lits ends : List ℕ) where
   pub kept : (s : Session n m (heap_ops n lits ends)) → IsGood s → (c : Call) → IsGood (leaves s (call n m (heap_ops n lits ends) s c))
   unfolding chooser
   kept s g c =
-      let k = either.kept n m (heap_ops n lits ends) (chooser n m lits ends g.small g.count g.clauses) s (record {
+      let k = either-laws.kept n m (heap_ops n lits ends) (chooser n m lits ends g.small g.count g.clauses) s (record {
         trail = g.trail;
         on = is_on s.chooser.decision;
         ok = heap_ok n lits ends g.small g.clauses (record { good = g.heap; switched = λ v b. refl });

@@ -10,7 +10,7 @@ use Rattle.std.specs.Float.Ieee.{le}
 use Rattle.lit.specs.Numbers.{bad_polarity}
 use Rattle.heap.specs.Order.{Inverse}
 use Rattle.vsids.specs.Vsids.{Vsids, places, is_open, Found, chose, nothing, get_next}
-use Rattle.vsids.specs.Choice.{chose_right, chosen_highest}
+use Rattle.vsids.proofs.Choice.{chose_right, chosen_highest}
 use Rattle.choosers.specs.Heap.{heap_ops, next_of}
 use Rattle.book.specs.Calls.{decide}
 use Rattle.book.specs.Session.{status, reply, leaves, need, decided, Session, call}

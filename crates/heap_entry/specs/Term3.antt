@@ -7,10 +7,10 @@ use Rattle.book.specs.Calls.{Call}
 use Rattle.book.specs.Session.{status, leaves, Session, call}
 use Rattle.book.specs.Claim.{starting_with, begin, run, Claim}
 use Rattle.session.specs.Asked.{Asked, asked, Lending}
-use Rattle.session.specs.Entered as either
+use Rattle.session.proofs.Entered as either-laws
 use Rattle.session.specs.Entered.{RightScratch, Founded}
 use Rattle.session.specs.Mode.{Mode}
-use Rattle.session.specs.Runs as runs
+use Rattle.session.proofs.Runs as runs-laws
 use Rattle.session.specs.Runs.{FoundedBy, Turn, run_turns, Family}
 use Rattle.heap_entry.specs.Entry.{heap_mode, entered, made}
 use Rattle.heap_entry.specs.Kept.{chooser, IsGood}
@@ -39,26 +39,26 @@ module _ (g : Lending) where
   pub made_term3 : (s : Session g.n g.m (heap_ops g.n g.lits g.ends)) → status (made g.n g.m g.lits g.literals g.ends s) ≡ 0 → (turns : List Turn)
       → let r = starting_with g.n g.m (heap_ops g.n g.lits g.ends) (leaves s (made g.n g.m g.lits g.literals g.ends s)) in
       Claim g.n g.m (heap_ops g.n g.lits g.ends) (run_turns heap_over (λ g h c. c) g r turns)
-  made_term3 = runs.made_term3 heap_over (λ g h c. c) heap_family g true
+  made_term3 = runs-laws.made_term3 heap_over (λ g h c. c) heap_family g true
 
   -- and from every fresh session with at most 2,048 variables and a good clause list
   pub heap_term3 : FoundedBy g → (turns : List Turn)
       → Claim g.n g.m (heap_ops g.n g.lits g.ends) (run_turns heap_over (λ g h c. c) g (begin g.n g.m (heap_ops g.n g.lits g.ends)) turns)
-  heap_term3 = runs.turns_term3 heap_over (λ g h c. c) heap_family g
+  heap_term3 = runs-laws.turns_term3 heap_over (λ g h c. c) heap_family g
 
 module _ (n m : ℕ) (lits : List ℕ) (literals : ℕ) (ends : List ℕ) where
   -- an accepted creation makes the session that `begin` has
   pub made_begins : (s : Session n m (heap_ops n lits ends)) → status (made n m lits literals ends s) ≡ 0 → leaves s (made n m lits literals ends s) ≡ (begin n m (heap_ops n lits ends)).now
   unfolding begin
-  made_begins s = either.made_fresh n m (heap_mode n m lits ends) lits literals ends true s
+  made_begins s = either-laws.made_fresh n m (heap_mode n m lits ends) lits literals ends true s
 
   module _ (founded : Founded n m lits ends) (calls : List Call) where
     -- every session of a run is good
     pub run_good : IsGood n m lits ends (run n m (heap_ops n lits ends) (begin n m (heap_ops n lits ends)) calls).now
     unfolding heap_sound
-    run_good = runs.run_good n m (heap_mode n m lits ends) lits literals ends (heap_sound n m lits ends) founded calls
+    run_good = runs-laws.run_good n m (heap_mode n m lits ends) lits literals ends (heap_sound n m lits ends) founded calls
 
     -- so a call on it, lent as it was made, is refused before its own tests only for a group's scratch
     pub run_unchecked : length lits ≡ literals → (a : Asked) → RightScratch a → let s = (run n m (heap_ops n lits ends) (begin n m (heap_ops n lits ends)) calls).now in
         entered n m lits literals ends a s ≡ call n m (heap_ops n lits ends) s (asked a)
-    run_unchecked el a z = runs.run_unchecked n m (heap_mode n m lits ends) lits literals ends (heap_sound n m lits ends) founded el calls a z
+    run_unchecked el a z = runs-laws.run_unchecked n m (heap_mode n m lits ends) lits literals ends (heap_sound n m lits ends) founded el calls a z

@@ -14,7 +14,7 @@ use Rattle.vsids.specs.Good.{GoodHeap}
 use Rattle.book.specs.Session.{Session}
 use Rattle.session.specs.Checks.{state_refusal}
 use Rattle.session.specs.Mode.{lengths_ok}
-use Rattle.session.specs.Entered.{passed_good}
+use Rattle.session.proofs.Entered.{passed_good}
 use Rattle.choosers.specs.Heap.{heap_ops}
 use Rattle.heap_session.specs.declared.HeapState.{HeapState}
 use Rattle.heap_session.specs.Good.{GoodSession}

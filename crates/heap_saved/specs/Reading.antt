@@ -9,7 +9,8 @@ use Rattle.vsids.specs.Vsids.{Vsids, vsids_of}
 use Rattle.session.specs.Entry.{Answered}
 use Rattle.session.specs.Mode.{trail_lengths, clause_lengths}
 use Rattle.session.specs.Sizes.{sized_trail, both}
-use Rattle.session.specs.Checks.{state_refusal, state_passed}
+use Rattle.session.specs.Checks.{state_refusal}
+use Rattle.session.proofs.Checks.{state_passed}
 use Rattle.heap_entry.specs.Entry.{heap_lengths}
 use Rattle.heap_entry.specs.Checked.{HeapSized, sized_heap}
 use Rattle.forms.specs.Forms.{vsids, Opening}

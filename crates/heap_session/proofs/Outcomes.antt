@@ -14,7 +14,7 @@ use Rattle.choosers.specs.Heap.{heap_ops}
 use Rattle.book.specs.Calls.{Call, decay, bump_reason}
 use Rattle.book.specs.Session.{Session, need, tuned, call}
 use Rattle.session.specs.Entry.{Answered}
-use Rattle.session.specs.Outcomes.{finished, rechosen}
+use Rattle.session.proofs.Outcomes.{finished, rechosen}
 
 module _ (n m : ℕ) (lits ends : List ℕ) (s : Session n m (heap_ops n lits ends)) where
   -- status k, reply r and the session u are what the call c gives

@@ -8,11 +8,12 @@ use Rattle.formula.specs.Good.{GoodClauses}
 use Rattle.trail.specs.Trail.{Trail, fresh_trail}
 use Rattle.trail.specs.Memory.{Sized}
 use Rattle.trail_check.specs.Check.{trail_ok}
-use Rattle.trail_check.specs.Checked.{trail_right}
+use Rattle.trail_check.proofs.Checked.{trail_right}
 use Rattle.trail.specs.Laws.{fresh_good}
 use Rattle.vsids.specs.Vsids.{Vsids, new}
-use Rattle.vsids.specs.Check.{SameLengths, check_heap, check_good, good_check}
-use Rattle.vsids.specs.Kept.{new_ok}
+use Rattle.vsids.specs.Check.{SameLengths, check_heap}
+use Rattle.vsids.proofs.Check.{check_good, good_check}
+use Rattle.vsids.proofs.Kept.{new_ok}
 use Rattle.heap_session.specs.Good.{GoodSession}
 
 -- 'the state breaks a fact stated above for its records'

@@ -10,7 +10,7 @@ use Rattle.choosers.specs.List.{list_ops, list_chooser, list_ok, ok_list}
 use Rattle.book.specs.Calls.{Call}
 use Rattle.book.specs.Session.{Session, leaves, call}
 use Rattle.session.specs.Sizes.{both}
-use Rattle.session.specs.Kept as either
+use Rattle.session.proofs.Kept as either-laws
 use Rattle.session.specs.Entered.{Sound}
 use Rattle.list_session.specs.Good.{GoodSession}
 use Rattle.list_session.specs.Check.{state_ok, checked_good, good_checked}
@@ -45,7 +45,7 @@ state_right n m t l small sized long =
 pub kept : (n m : ℕ) (lits : List ℕ) (s : Session n m (list_ops n lits)) → IsGood n m lits s → (c : Call) → IsGood n m lits (leaves s (call n m (list_ops n lits) s c))
 kept n m lits s g c =
     let few : n ≤ NONE = omega (arith, g.small) in
-    let k = either.kept n m (list_ops n lits) (list_chooser n m lits few) s (record {
+    let k = either-laws.kept n m (list_ops n lits) (list_chooser n m lits few) s (record {
       trail = g.trail;
       on = λ v. true;
       ok = list_ok n m lits few (record { values_long = g.trail.lengths.values_long; all_on = λ v. refl; order = g.list.0; good = g.list.1 });

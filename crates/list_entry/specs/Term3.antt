@@ -7,11 +7,11 @@ use Rattle.book.specs.Calls.{Call}
 use Rattle.book.specs.Session.{status, leaves, Session, call}
 use Rattle.book.specs.Claim.{starting_with, begin, run, Claim}
 use Rattle.session.specs.Asked.{Asked, asked, Lending}
-use Rattle.session.specs.Entered as either
+use Rattle.session.proofs.Entered as either-laws
 use Rattle.session.specs.Entered.{RightScratch, Founded}
 use Rattle.session.specs.Mode.{Mode, scratch_lengths}
 use Rattle.session.specs.Mode as mode
-use Rattle.session.specs.Runs as runs
+use Rattle.session.proofs.Runs as runs-laws
 use Rattle.session.specs.Runs.{FoundedBy, Turn, run_turns, Family}
 use Rattle.list_session.specs.Kept.{IsGood}
 use Rattle.list_entry.specs.Entry.{list_mode, entered, made, made_unaided}
@@ -44,33 +44,33 @@ module _ (g : Lending) where
       → (turns : List Turn)
       → let r = starting_with g.n g.m (list_ops g.n g.lits) (leaves s (made g.n g.m g.lits g.literals g.ends counts indexes s)) in
       Claim g.n g.m (list_ops g.n g.lits) (run_turns list_over (λ g h c. c) g r turns)
-  made_term3 counts indexes = runs.made_term3 list_over (λ g h c. c) list_family g (scratch_lengths g.n (length counts) (length indexes))
+  made_term3 counts indexes = runs-laws.made_term3 list_over (λ g h c. c) list_family g (scratch_lengths g.n (length counts) (length indexes))
 
   -- the same where creation was lent no scratch
   pub unaided_term3 : (s : Session g.n g.m (list_ops g.n g.lits)) → status (made_unaided g.n g.m g.lits g.literals g.ends s) ≡ 0 → (turns : List Turn)
       → let r = starting_with g.n g.m (list_ops g.n g.lits) (leaves s (made_unaided g.n g.m g.lits g.literals g.ends s)) in
       Claim g.n g.m (list_ops g.n g.lits) (run_turns list_over (λ g h c. c) g r turns)
-  unaided_term3 = runs.made_term3 list_over (λ g h c. c) list_family g true
+  unaided_term3 = runs-laws.made_term3 list_over (λ g h c. c) list_family g true
 
   -- and from every fresh session with at most 2,048 variables and a good clause list
   pub list_term3 : FoundedBy g → (turns : List Turn)
       → Claim g.n g.m (list_ops g.n g.lits) (run_turns list_over (λ g h c. c) g (begin g.n g.m (list_ops g.n g.lits)) turns)
-  list_term3 = runs.turns_term3 list_over (λ g h c. c) list_family g
+  list_term3 = runs-laws.turns_term3 list_over (λ g h c. c) list_family g
 
 module _ (n m : ℕ) (lits : List ℕ) (literals : ℕ) (ends : List ℕ) where
   -- an accepted creation, with scratch that is lent or without, makes the session that `begin` has
   pub made_begins : (scratch : Bool) (s : Session n m (list_ops n lits)) → let x = mode.made n m (list_mode n m lits) lits literals ends scratch s in
       status x ≡ 0 → leaves s x ≡ (begin n m (list_ops n lits)).now
   unfolding begin
-  made_begins = either.made_fresh n m (list_mode n m lits) lits literals ends
+  made_begins = either-laws.made_fresh n m (list_mode n m lits) lits literals ends
 
   module _ (founded : Founded n m lits ends) (calls : List Call) where
     -- every session of a run is good
     pub run_good : IsGood n m lits (run n m (list_ops n lits) (begin n m (list_ops n lits)) calls).now
     unfolding list_sound
-    run_good = runs.run_good n m (list_mode n m lits) lits literals ends (list_sound n m lits ends) founded calls
+    run_good = runs-laws.run_good n m (list_mode n m lits) lits literals ends (list_sound n m lits ends) founded calls
 
     -- so a call on it, lent as it was made, is refused before its own tests only for a group's scratch
     pub run_unchecked : length lits ≡ literals → (a : Asked) → RightScratch a → let s = (run n m (list_ops n lits) (begin n m (list_ops n lits)) calls).now in
         entered n m lits literals ends a s ≡ call n m (list_ops n lits) s (asked a)
-    run_unchecked el a z = runs.run_unchecked n m (list_mode n m lits) lits literals ends (list_sound n m lits ends) founded el calls a z
+    run_unchecked el a z = runs-laws.run_unchecked n m (list_mode n m lits) lits literals ends (list_sound n m lits ends) founded el calls a z

@@ -13,7 +13,7 @@ use Rattle.vmtf.specs.Good.{GoodList, order_length, order_is, chain}
 use Rattle.book.specs.Session.{Session}
 use Rattle.session.specs.Checks.{state_refusal}
 use Rattle.session.specs.Mode.{lengths_ok}
-use Rattle.session.specs.Entered.{passed_good}
+use Rattle.session.proofs.Entered.{passed_good}
 use Rattle.choosers.specs.List.{list_ops}
 use Rattle.list_session.specs.declared.ListState.{ListState}
 use Rattle.list_session.specs.Good.{GoodSession}

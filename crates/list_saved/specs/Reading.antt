@@ -9,7 +9,8 @@ use Rattle.vmtf.specs.Vmtf.{Vmtf, vmtf_of}
 use Rattle.session.specs.Entry.{Answered}
 use Rattle.session.specs.Mode.{trail_lengths, clause_lengths}
 use Rattle.session.specs.Sizes.{sized_trail, both}
-use Rattle.session.specs.Checks.{state_refusal, state_passed}
+use Rattle.session.specs.Checks.{state_refusal}
+use Rattle.session.proofs.Checks.{state_passed}
 use Rattle.list_entry.specs.Entry.{list_lengths}
 use Rattle.list_entry.specs.Checked.{ListSized, sized_list}
 use Rattle.forms.specs.Forms.{vmtf, Opening}

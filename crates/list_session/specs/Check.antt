@@ -6,7 +6,7 @@ use Rattle.lit.specs.Numbers.{max_vars}
 use Rattle.trail.specs.Trail.{Trail}
 use Rattle.trail.specs.Memory.{Sized}
 use Rattle.trail_check.specs.Check.{trail_ok}
-use Rattle.trail_check.specs.Checked.{trail_right}
+use Rattle.trail_check.proofs.Checked.{trail_right}
 use Rattle.vmtf.specs.Vmtf.{Vmtf, check_list}
 use Rattle.vmtf.specs.Check.{check_good}
 use Rattle.list_session.specs.Good.{GoodSession}

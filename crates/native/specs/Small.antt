@@ -8,7 +8,7 @@ use Rattle.choosers.specs.List.{list_ops}
 use Rattle.book.specs.Session.{Result, done, refuse, status, reply, need, Session}
 use Rattle.book.specs.Mapped.{mapped_reply}
 use Rattle.session.specs.Entry.{sizes_checked, checked, Answered}
-use Rattle.session.specs.Checks.{size_zero, size_accepted}
+use Rattle.session.proofs.Checks.{size_zero, size_accepted}
 use Rattle.session.specs.Mode.{Mode, entered_list}
 use Rattle.words.specs.Words as words
 use Rattle.words.specs.Words.{entered_words}

@@ -11,7 +11,8 @@ use Rattle.trail.specs.Trail.{Trail}
 use Rattle.book.specs.Session.{Result, done, need}
 use Rattle.session.specs.Entry.{sizes_checked, checked, Answered}
 use Rattle.session.specs.Mode.{trail_lengths, clause_lengths}
-use Rattle.session.specs.Checks.{state_refusal, refused, accepted}
+use Rattle.session.specs.Checks.{state_refusal}
+use Rattle.session.proofs.Checks.{refused, accepted}
 use Rattle.forms.specs.Forms.{Mode, vsids, vmtf}
 use Rattle.saved_text.specs.Saved.{Saved}
 use Rattle.saved_text.specs.Reading.{read_text}

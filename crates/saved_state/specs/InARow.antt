@@ -13,7 +13,7 @@ use Rattle.book.specs.Saved.{forgotten, read_back}
 use Rattle.session.specs.Asked.{Lending}
 use Rattle.session.specs.Entry.{sizes_checked, checked}
 use Rattle.session.specs.Mode.{Mode, lengths_ok, entered_list}
-use Rattle.session.specs.Checks.{accepted, checked_zero}
+use Rattle.session.proofs.Checks.{accepted, checked_zero}
 use Rattle.session.specs.Runs.{SessionOver, moved, gone_on, saved, turn}
 use Rattle.forms.specs.Text.{written}
 use Rattle.saved_text.specs.Saved.{Saved, text_of}

@@ -15,9 +15,11 @@ use Rattle.lit.specs.Numbers.{NONE, short_buffer}
 use Rattle.formula.specs.Clauses.{clauses_ok}
 use Rattle.book.specs.Session.{Result, done, status, reply, leaves, need, Session}
 use Rattle.session.specs.Entry.{Answered, reply_number}
-use Rattle.session.specs.Checks.{state_refusal, refused, accepted, checked_zero}
+use Rattle.session.specs.Checks.{state_refusal}
+use Rattle.session.proofs.Checks.{refused, accepted, checked_zero}
 use Rattle.session.specs.Mode.{Mode, lengths_ok}
-use Rattle.session.specs.Entered.{Sound, GoodMemory, passed_good, good_passed}
+use Rattle.session.specs.Entered.{Sound, GoodMemory}
+use Rattle.session.proofs.Entered.{passed_good, good_passed}
 use Rattle.forms.specs.Text.{written}
 use Rattle.saved_text.specs.Saved.{Saved, text_of}
 use Rattle.saved_text.specs.Puts.{Puts}

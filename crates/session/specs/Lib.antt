@@ -1,7 +1,6 @@
 -- Calls as code has them, and what an entry point answers.
 pub mod Calls
 pub mod Entry
-pub mod Outcomes
 pub mod OnTrail
 pub mod Asked
 pub mod Checks

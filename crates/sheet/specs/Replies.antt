@@ -6,7 +6,7 @@ use Rattle.lit.specs.Numbers.{max_vars}
 use Rattle.trail.specs.Good.{GoodTrail}
 use Rattle.vsids.specs.Vsids as vsids
 use Rattle.vsids.specs.Good.{GoodHeap, Right}
-use Rattle.vsids.specs.Choice.{get_next_right}
+use Rattle.vsids.proofs.Choice.{get_next_right}
 use Rattle.vmtf.specs.declared.Next.TheVariants as found
 use Rattle.vmtf.specs.declared.Next as code
 use Rattle.vmtf.specs.Vmtf.{Vmtf}

@@ -1,9 +1,7 @@
 -- The heap chooser: the operations of `VSIDS`, what a good heap is and stays, what `get_next` answers, and the check of lent memory.
 pub mod Vsids
 pub mod Good
-pub mod Fresh
 pub mod Scoring
-pub mod Kept
 pub mod Choice
 pub mod Check
 pub mod Untouched

@@ -13,9 +13,11 @@ use Rattle.book.specs.Claim.{starting_with, run}
 use Rattle.book.specs.Read.{calls_of, called, called_kept}
 use Rattle.session.specs.Asked.{Asked, asked}
 use Rattle.session.specs.Entry.{sizes_checked, checked, reply_number}
-use Rattle.session.specs.Checks.{state_refusal, accepted, checked_zero}
+use Rattle.session.specs.Checks.{state_refusal}
+use Rattle.session.proofs.Checks.{accepted, checked_zero}
 use Rattle.session.specs.Mode.{Mode, entered, entered_list}
-use Rattle.session.specs.Entered.{Sound, RightScratch, GoodMemory, passed_good, good_passed, unchecked}
+use Rattle.session.specs.Entered.{Sound, RightScratch, GoodMemory}
+use Rattle.session.proofs.Entered.{passed_good, good_passed, unchecked}
 use Rattle.words.specs.Words.{word_call, calls_in, words_fit, told, entered_words, each_alone}
 use Rattle.words.specs.Going.{ends, tells, told_is}
 

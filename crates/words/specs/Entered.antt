@@ -9,7 +9,8 @@ use Rattle.book.specs.Session.{Result, done, refuse, status, mapped, Session}
 use Rattle.book.specs.Claim.{starting_with, run}
 use Rattle.book.specs.Read.{calls_of}
 use Rattle.session.specs.Entry.{Answered}
-use Rattle.session.specs.Checks.{state_refusal, refused, accepted}
+use Rattle.session.specs.Checks.{state_refusal}
+use Rattle.session.proofs.Checks.{refused, accepted}
 use Rattle.session.specs.Mode.{Mode, lengths_ok, entered_list}
 use Rattle.words.specs.Words.{calls_in, words_fit, told, entered_words}
 use Rattle.words.specs.Going.{ends, tells, told_is}

@@ -15,7 +15,7 @@ use Rattle.laws.specs.Every.{Passed, passed_none, passed_more, every_at, every_a
 use Rattle.lit.specs.Lits.{index}
 use Rattle.formula.specs.Clauses.{var_below}
 use Rattle.formula.specs.Checks.{differ, new_at}
-use Rattle.formula.specs.Distinct.{differ_facts}
+use Rattle.formula.proofs.Distinct.{differ_facts}
 use Rattle.formula.specs.Marks.{Unmarked}
 
 abbrev var_at : List ℕ → ℕ → ℕ

@@ -2,7 +2,7 @@
 use mathlib.Core.Path.{sym, ◌∙◌}
 use lib.ListN.{length}
 use borrow.Author.Rules.{rules}
-use Rattle.session.specs.Entered.{passed_good}
+use Rattle.session.proofs.Entered.{passed_good}
 use Rattle.words.specs.Words.{words_fit}
 use Rattle.words.specs.Entered.{fit_thirds, list_refused, list_ran}
 use Rattle.heap_session.specs.Memory.{session_of}

@@ -2,9 +2,9 @@
 use mathlib.Core.Path.{refl, sym, ◌∙◌}
 use borrow.Author.Rules.{rules}
 use Rattle.session.specs.Asked.{asks}
-use Rattle.session.specs.Checks.{refused, accepted}
+use Rattle.session.proofs.Checks.{refused, accepted}
 use Rattle.session.specs.Mode.{entered}
-use Rattle.session.specs.Entered.{admitted}
+use Rattle.session.proofs.Entered.{admitted}
 use Rattle.heap_session.specs.Memory.{session_of}
 use Rattle.heap_entry.specs.Entry.{heap_mode}
 use Rattle.heap_entry.specs.Checked.{heap_sound}

@@ -5,7 +5,7 @@ use borrow.Author.Tests.{not-true, not-false}
 use Rattle.vsids.specs.Vsids.{vsids_of}
 use Rattle.book.specs.Session.{need}
 use Rattle.session.specs.Entry.{checked}
-use Rattle.session.specs.Checks.{size_refused, size_passed, size_accepted}
+use Rattle.session.proofs.Checks.{size_refused, size_passed, size_accepted}
 use Rattle.session.specs.Sizes.{sizes_right}
 use Rattle.heap_entry.specs.Checked.{heap_sized}
 use Rattle.heap_entry.proofs.refusal.Goals as goal

@@ -18,7 +18,7 @@ use Rattle.activity.specs.declared.Step.{Step}
 use Rattle.heap.specs.Heap.{in_heap}
 use Rattle.vsids.specs.declared.VsidsState.{VsidsState}
 use Rattle.vsids.specs.Vsids.{Vsids, vsids_of, is_on, insert}
-use Rattle.vsids.specs.Kept.{undo_ok}
+use Rattle.vsids.proofs.Kept.{undo_ok}
 use Rattle.choosers.specs.Heap.{heap_ops}
 use Rattle.book.specs.Session.{Session, offer_all, went_back}
 use Rattle.heap_session.specs.Memory.{insert_all}

@@ -7,8 +7,8 @@ use Rattle.vmtf.specs.Good.{good_ends}
 use Rattle.vmtf.specs.Choice.{NextIs, next_right}
 use Rattle.book.specs.Session.{call}
 use Rattle.choosers.specs.List.{next_of}
-use Rattle.session.specs.Outcomes.{failed, chosen, none_open, past_open_lem}
-use Rattle.session.specs.OnTrail.{decision_room}
+use Rattle.session.proofs.Outcomes.{failed, chosen, none_open, past_open_lem}
+use Rattle.session.proofs.OnTrail.{decision_room}
 use borrow.Author.Rules.{rules}
 use Rattle.list_session.proofs.decide.Goals as goal
 

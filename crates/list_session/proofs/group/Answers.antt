@@ -5,7 +5,7 @@ use lib.ListN.{replicate}
 use Rattle.vmtf.specs.Good.{good_safe}
 use Rattle.vmtf.specs.Sort.{group_apart}
 use Rattle.book.specs.Session.{call, tuned}
-use Rattle.session.specs.Outcomes.{failed, passed, rechosen}
+use Rattle.session.proofs.Outcomes.{failed, passed, rechosen}
 use Rattle.choosers.specs.List.{below_each}
 use borrow.Author.Rules.{rules}
 use Rattle.list_session.proofs.group.Goals as goal

@@ -8,7 +8,8 @@ use lib.ListN.{length}
 use Rattle.laws.specs.Tests.{and_left}
 use Rattle.lit.specs.Unused.{unused_ok}
 use Rattle.trail_check.specs.Check.{counts_ok, values_ok, reasons_ok, places_ok, held_ok, trail_ok}
-use Rattle.trail_check.specs.Checked.{Counts, counts_right, places_right}
+use Rattle.trail_check.specs.Checked.{Counts}
+use Rattle.trail_check.proofs.Checked.{counts_right, places_right}
 use Rattle.trail_check.proofs.check_trail.Goals as goal
 use Rattle.trail_check.proofs.check_trail.Goals.{Else-not-check_places, Else-not-check_unused, Else-not-check_variables, Else-not-counts_ok}
 

@@ -5,7 +5,8 @@ use native.Mathlib.Omega.{arith}
 use borrow.Author.Rules.{rules}
 use borrow.Author.Tests.{not-true, not-false}
 use Rattle.laws.specs.Every.{every_all}
-use Rattle.trail_check.specs.Checked.{Openings, opened_right}
+use Rattle.trail_check.specs.Checked.{Openings}
+use Rattle.trail_check.proofs.Checked.{opened_right}
 use Rattle.trail_check.proofs.Rows.{Rows, row_more, row_fails, row_last}
 use Rattle.trail_check.proofs.levels_ok.Goals as goal
 use Rattle.trail_check.proofs.levels_ok.Goals.{Start}

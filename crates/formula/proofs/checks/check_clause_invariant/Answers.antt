@@ -3,7 +3,7 @@ use borrow.Author.Rules.{rules}
 use borrow.Author.Tests.{lt-ltb, le-ltb, eq-eqb, ne_eqb}
 use Rattle.lit.specs.Numbers.{max_vars}
 use Rattle.formula.specs.Checks.{check_clause_invariant_call}
-use Rattle.formula.specs.Marks.{fresh_marks}
+use Rattle.formula.proofs.Marks.{fresh_marks}
 use Rattle.formula.proofs.checks.check_clause_invariant.Goals as goal
 
 pub returns-then-n-gt-MAX_VARS : goal.returns-then-n-gt-MAX_VARS

@@ -13,7 +13,8 @@ use Rattle.formula.specs.declared.checks.SatResult.TheVariants.{Err, Unsat, Unkn
 use Rattle.formula.specs.Clauses.{clause, clauses}
 use Rattle.formula.specs.Reading.{clause_at, length_clauses, drop_clauses}
 use Rattle.formula.specs.Checks.{check_clause_invariant, check_each}
-use Rattle.formula.specs.Marks.{Unmarked, fresh_marks}
+use Rattle.formula.specs.Marks.{Unmarked}
+use Rattle.formula.proofs.Marks.{fresh_marks}
 use Rattle.formula.proofs.checks.check_each.Invariants.{Rest}
 use Rattle.formula.proofs.checks.check_each.Goals as goal
 

@@ -9,7 +9,7 @@ use Rattle.session.specs.Sizes.{sizes_right}
 use Rattle.heap_session.specs.Memory.{session_of}
 use Rattle.heap_entry.specs.Entry.{blank}
 use Rattle.heap_entry.specs.Checked.{heap_sized}
-use Rattle.session.specs.Checks.{size_refused, size_passed, size_accepted, opened}
+use Rattle.session.proofs.Checks.{size_refused, size_passed, size_accepted, opened}
 use Rattle.session.specs.Mode.{made}
 use Rattle.heap_entry.proofs.creation.fresh.Goals as goal
 

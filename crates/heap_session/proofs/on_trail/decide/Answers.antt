@@ -1,13 +1,13 @@
 -- `heap_session::on_trail::decide` meets its contract: by what `get_next` found; the variable that it picks has room on the trail.
 use mathlib.Core.Path.{refl, sym, ap}
-use Rattle.vsids.specs.Kept.{good_room}
-use Rattle.vsids.specs.Choice.{chose_right}
+use Rattle.vsids.proofs.Kept.{good_room}
+use Rattle.vsids.proofs.Choice.{chose_right}
 use Rattle.heap_session.proofs.on_trail.Needed.{picked_free}
 use borrow.Author.Tests.{le-ltb}
-use Rattle.session.specs.OnTrail.{decision_room}
+use Rattle.session.proofs.OnTrail.{decision_room}
 use Rattle.book.specs.Session.{call}
 use Rattle.choosers.specs.Heap.{next_of}
-use Rattle.session.specs.Outcomes.{failed, chosen, none_open}
+use Rattle.session.proofs.Outcomes.{failed, chosen, none_open}
 use borrow.Author.Rules.{rules}
 use Rattle.heap_session.proofs.on_trail.decide.Goals as goal
 

@@ -6,7 +6,7 @@ use lib.ListN.{length, get_or}
 use Rattle.lit.specs.Lits.{index}
 use Rattle.trail.specs.Undone.{between}
 use Rattle.vsids.specs.Vsids.{vsids_of, insert}
-use Rattle.vsids.specs.Kept.{good_room, good_free}
+use Rattle.vsids.proofs.Kept.{good_room, good_free}
 use Rattle.heap_session.specs.Memory.{insert_all}
 use Rattle.heap_session.proofs.on_trail.Going.{Offering, offering, same_step, offered_all}
 use borrow.Author.Rules.{rules}

@@ -1,8 +1,8 @@
 -- `heap_session::order::bump` meets its contract: a good heap is safe to move in.
-use Rattle.vsids.specs.Kept.{good_room, good_placed}
+use Rattle.vsids.proofs.Kept.{good_room, good_placed}
 use borrow.Author.Tests.{lt-ltb, le-ltb}
 use Rattle.book.specs.Session.{call, tuned}
-use Rattle.session.specs.Outcomes.{failed, passed, rechosen}
+use Rattle.session.proofs.Outcomes.{failed, passed, rechosen}
 use borrow.Author.Rules.{rules}
 use Rattle.heap_session.proofs.order.bump.Goals as goal
 

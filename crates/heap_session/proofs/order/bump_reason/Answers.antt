@@ -1,10 +1,10 @@
 -- `heap_session::order::bump_reason` meets its contract: a reason that is not NONE is a clause, and its literals are of variables.
 use Rattle.formula.specs.Reading.{clause_at, clause_below}
-use Rattle.vsids.specs.Kept.{good_room, good_placed}
+use Rattle.vsids.proofs.Kept.{good_room, good_placed}
 use Rattle.heap_session.proofs.Needed.{is_clause}
 use borrow.Author.Tests.{le-ltb}
 use Rattle.book.specs.Session.{call}
-use Rattle.session.specs.Outcomes.{failed}
+use Rattle.session.proofs.Outcomes.{failed}
 use Rattle.heap_session.proofs.Outcomes.{without_reason, reason_bumped}
 use mathlib.Core.Path.{refl}
 use borrow.Author.Rules.{rules}

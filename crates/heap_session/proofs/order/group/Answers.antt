@@ -2,7 +2,7 @@
 use mathlib.Core.Path.{refl, sym, ◌∙◌}
 use borrow.Author.Tests.{not-true, not-false}
 use Rattle.book.specs.Session.{call, tuned}
-use Rattle.session.specs.Outcomes.{failed, passed, finished}
+use Rattle.session.proofs.Outcomes.{failed, passed, finished}
 use borrow.Author.Rules.{rules}
 use Rattle.heap_session.proofs.order.group.Goals as goal
 

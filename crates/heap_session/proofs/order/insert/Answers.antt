@@ -1,8 +1,8 @@
 -- `heap_session::order::insert` meets its contract: a good heap has room for a variable that is no member.
-use Rattle.vsids.specs.Kept.{good_room, good_free}
+use Rattle.vsids.proofs.Kept.{good_room, good_free}
 use borrow.Author.Tests.{lt-ltb, le-ltb}
 use Rattle.book.specs.Session.{call}
-use Rattle.session.specs.Outcomes.{failed, passed, rechosen}
+use Rattle.session.proofs.Outcomes.{failed, passed, rechosen}
 use borrow.Author.Rules.{rules}
 use Rattle.heap_session.proofs.order.insert.Goals as goal
 

@@ -2,7 +2,7 @@
 use mathlib.Core.Path.{sym, ◌∙◌}
 use borrow.Author.Tests.{not-true, not-false}
 use Rattle.book.specs.Session.{call, tuned}
-use Rattle.session.specs.Outcomes.{failed, passed, rechosen}
+use Rattle.session.proofs.Outcomes.{failed, passed, rechosen}
 use borrow.Author.Rules.{rules}
 use Rattle.heap_session.proofs.order.set_decay.Goals as goal
 

@@ -1,7 +1,7 @@
 -- `heap_session::order::switch_off` meets its contract: by its test.
 use borrow.Author.Tests.{lt-ltb, le-ltb}
 use Rattle.book.specs.Session.{call}
-use Rattle.session.specs.Outcomes.{failed, passed, rechosen}
+use Rattle.session.proofs.Outcomes.{failed, passed, rechosen}
 use borrow.Author.Rules.{rules}
 use Rattle.heap_session.proofs.order.switch_off.Goals as goal
 

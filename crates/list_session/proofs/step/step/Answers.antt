@@ -1,8 +1,8 @@
 -- `list_session::step::step` meets its contract: each arm by the contract of its call.
 use mathlib.Core.Path.{refl}
 use Rattle.book.specs.Session.{call, tuned}
-use Rattle.session.specs.Outcomes.{tested, finished}
-use Rattle.session.specs.OnTrail.{enqueue_with, unit_with, back_with}
+use Rattle.session.proofs.Outcomes.{tested, finished}
+use Rattle.session.proofs.OnTrail.{enqueue_with, unit_with, back_with}
 use Rattle.list_session.specs.Kept.{went}
 use borrow.Author.Rules.{rules}
 use Rattle.list_session.proofs.step.step.Goals as goal

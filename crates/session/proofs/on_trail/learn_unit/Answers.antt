@@ -2,8 +2,8 @@
 use mathlib.Core.Path.{sym, ◌∙◌}
 use borrow.Author.Rules.{rules}
 use Rattle.trail.specs.Laws.{levelled}
-use Rattle.session.specs.Outcomes.{refused}
-use Rattle.session.specs.OnTrail.{unit_room, unit_put}
+use Rattle.session.proofs.Outcomes.{refused}
+use Rattle.session.proofs.OnTrail.{unit_room, unit_put}
 use Rattle.session.proofs.on_trail.learn_unit.Goals as goal
 
 pub returns-then-k-ne0 : goal.returns-then-k-ne0

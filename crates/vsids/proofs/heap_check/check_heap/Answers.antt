@@ -9,8 +9,8 @@ use Rattle.laws.specs.Every.{every}
 use Rattle.activity.specs.Step.{good_step}
 use Rattle.vsids.specs.Vsids.{Vsids, vsids_of, places, before}
 use Rattle.vsids.specs.Check.{switch_ok, place_ok}
-use Rattle.vsids.specs.Untouched.{untouched_places, untouched_activities, untouched_positions}
-use Rattle.vsids.specs.Outside.{positions_counted}
+use Rattle.vsids.proofs.Untouched.{untouched_places, untouched_activities, untouched_positions}
+use Rattle.vsids.proofs.Outside.{positions_counted}
 use Rattle.vsids.proofs.heap_check.Branches.{too_many, bad_step, bad_switches, bad_places, bad_activities, good_activities}
 use Rattle.vsids.proofs.heap_check.check_heap.Goals as goal
 use Rattle.vsids.proofs.heap_check.check_heap.Goals.{After-switches_ok, Else-not-places_ok, Else-not-switches_ok}

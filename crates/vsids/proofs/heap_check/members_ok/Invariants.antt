@@ -6,7 +6,8 @@ use borrow.Author.Tests.{not-true, not-false}
 use lib.ListN.{length}
 use Rattle.laws.specs.Every.{Passed, passed_none, passed_more, passed_all, passed_fails, every_at}
 use Rattle.heap.specs.Heap.{comes_first, places_of}
-use Rattle.vsids.specs.Check.{member_ok, variable_says}
+use Rattle.vsids.specs.Check.{member_ok}
+use Rattle.vsids.proofs.Check.{variable_says}
 use Rattle.vsids.proofs.heap_check.members_ok.Given as goal
 
 abbrev pub invariant-loop-i : goal.invariant-loop-i
