@@ -1,5 +1,6 @@
 // Activities as doubles, and the step that is added to them.
 #![tactic(auto)]
+
 ghost use Rattle.std.specs.Prelude.{◌≡◌};
 ghost use Rattle.activity.specs.Step as spec;
 

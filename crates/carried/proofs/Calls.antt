@@ -107,7 +107,7 @@ module _ (n m : ℕ) (O : Operations) where
   pub run_alike : (r q : Run n m O) (calls : List Call) → Alike r q → Alike (run n m O r calls) (run n m O q calls)
   unfolding run step
   run_alike r q [] a = a
-  run_alike r q (c ∷ calls) a = run_alike _ _ calls (extended_alike r q c _ _ a (call_same r.now q.now c a.ends))
+  run_alike r q (c ∷ calls) a = run_alike (step n m O r c) (step n m O q c) calls (extended_alike r q c _ _ a (call_same r.now q.now c a.ends))
 
   pub runs_same : RunsSame n m O
   runs_same s t e calls = run_alike _ _ calls (record { answers = refl; ends = e })

@@ -149,10 +149,10 @@ module _ (M : Lending → Mode) (into : (g h : Lending) → (M g).ops.State → 
     along : (r q : Run g.n g.m (M g).ops) (turns : List Turn) → Alike r q → Alike (run_turns M into g r (unsaved turns)) (run_turns M into g q turns)
     unfolding run_turns unsaved
     along r q [] a = a
-    along r q (single h x ∷ turns) a = along _ _ turns (single_alike r q a h x)
-    along r q (listed h fit cs ∷ turns) a = along _ _ turns (listed_alike r q a h fit cs)
-    along r q (saved h ∷ turns) a = along r _ turns (saved_alike r q a h)
-    along r q (propagated curr ∷ turns) a = along _ _ turns (unfold turn in (propagated_alike r q a curr))
+    along r q (single h x ∷ turns) a = along (turn M into g r (single h x)) (turn M into g q (single h x)) turns (single_alike r q a h x)
+    along r q (listed h fit cs ∷ turns) a = along (turn M into g r (listed h fit cs)) (turn M into g q (listed h fit cs)) turns (listed_alike r q a h fit cs)
+    along r q (saved h ∷ turns) a = along r (turn M into g q (saved h)) turns (saved_alike r q a h)
+    along r q (propagated curr ∷ turns) a = along (turn M into g r (propagated curr)) (turn M into g q (propagated curr)) turns (unfold turn in (propagated_alike r q a curr))
 
     pub saves_unseen : SavesUnseen M into g
     saves_unseen r turns = along r r turns (record { answers = refl; ends = record { trail = same_refl r.now.trail; chooser = refl } })

@@ -1,5 +1,5 @@
--- Sessions that are read back as one, on the entry points' own definition; and rows of turns with saves among them, of which session/specs/Runs.antt has term 3.
--- proofs/Modes.antt proves it in either mode: `heap_entered_same`, `heap_lists_same`, `heap_saves_unseen`, `heap_back_over_save`, and with `list-` for `heap-`.
+-- Sessions that are read back as one, on the entry points' own definition; and rows of turns with saves among them, of which session/proofs/Runs.antt has term 3.
+-- proofs/Modes.antt proves it in either mode: `heap_entered_same`, `heap_lists_same`, `heap_saves_unseen`, `heap_back_over_save`, and with `list_` for `heap_`.
 use Rattle.std.specs.Prelude.{ℕ, ◌+◌, ◌≡◌, Bool, List, [], ◌∷◌}
 use Rattle.book.specs.Calls.{Call, decide, go_back}
 use Rattle.book.specs.Session.{status, leaves, Session}

@@ -13,9 +13,10 @@ use Rattle.sheet.specs.Sheet.{answer_line, opening, answered}
 use Rattle.sheet.specs.Stages.{reading, started}
 use Rattle.forms.specs.Written.{Wrote, put_more}
 use Rattle.sheet.specs.Running.{lines_from, line_length, after, Room, Ended}
-use Rattle.sheet.specs.Opening.{mode_of, opening_at, opening_of, at_first, first_told, first_answers}
+use Rattle.sheet.specs.Opening.{mode_of, opening_at, opening_of, at_first}
+use Rattle.sheet.proofs.Opening.{first_told, first_answers}
 use Rattle.desk.specs.Positions.{used_by, used_on, SameFrom}
-use Rattle.sheet.specs.Steps.{lines_more}
+use Rattle.sheet.proofs.Steps.{lines_more}
 
 module _ {sheet out : List ℕ} {count : ℕ} (room : Room sheet (at_first count) out) (more : 0 < count) where
   -- answered as what was read says, it is answered as the sheet says, and the positions that it says are used

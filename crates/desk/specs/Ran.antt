@@ -11,7 +11,7 @@ use Rattle.forms.specs.Text.{newline, lines, occurs, digits, written}
 use Rattle.forms.specs.TextLaws.{occurs_length, lines_end, lines_length, decimals_one}
 use Rattle.sheet.specs.Sheet.{answered, ran, result}
 use Rattle.forms.specs.Written.{Wrote}
-use Rattle.sheet.specs.Bounds.{answered_short}
+use Rattle.sheet.proofs.Bounds.{answered_short}
 use Rattle.desk.specs.Positions.{used, used_on, SameFrom, untouched}
 
 -- what the host gets and the buffer are those of a run that comes to x

@@ -1,5 +1,6 @@
 // A call sheet, from bytes to answers: the run, and the entry that hosts in C and Rust link.
 #![tactic(auto)]
+
 ghost use Rattle.std.specs.Prelude.{◌≡◌, ◌≤◌, length, []};
 ghost use Rattle.forms.specs.Text as text-spec;
 ghost use Rattle.book.specs.Session.{leaves};
@@ -57,8 +58,7 @@ pub fn print(sheet: &[u8], out: &mut [u8], positions: &mut [u32]) -> u32
 }
 
 // The entry for hosts: as `run`, with no positions lent.
-#[unsafe(no_mangle)]
-pub extern "C" fn sigvort_run(sheet: &[u8], out: &mut [u8]) -> u32
+pub fn sigvort_run(sheet: &[u8], out: &mut [u8]) -> u32
     ensures { let x = ran sheet.now (length out.old) in (result ≡ spec.result x) × (out.new ≡ text-spec.written 0 (leaves [] x) out.old) }
 {
     let mut none = [NONE; 0];

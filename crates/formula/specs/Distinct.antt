@@ -1,5 +1,5 @@
 -- What `no_duplicates` says: no two literals of the clause have the same variable; and `check_clause_invariant`: their variables are below n, too. Assumes nothing.
-use Rattle.std.specs.Prelude.{ℕ, ◌<◌, ◌≡◌, ◌↔◌, List, length, get_or}
+use Rattle.std.specs.Prelude.{ℕ, ◌<◌, ◌≡◌, List, length, get_or}
 use Rattle.lit.specs.Lits.{index}
 
 abbrev pub Distinct : List ℕ → Type 0

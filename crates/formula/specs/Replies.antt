@@ -1,5 +1,5 @@
 -- What the three calls reply, in numbers: a status, and the reply or NONE. Assumes nothing.
-use Rattle.std.specs.Prelude.{ℕ, ◌≡◌, cond, [], ◌∷◌, ltb, eqb}
+use Rattle.std.specs.Prelude.{ℕ, cond, ltb, eqb}
 use Rattle.lit.specs.Numbers.{NONE, max_vars, many_vars}
 
 -- the reply r, or the refusal k where there is one

@@ -1,5 +1,6 @@
 // The clause list, from clause.rs and formula.rs: a flat slice of literal codes and a slice of clause ends.
 #![tactic(auto)]
+
 ghost use Rattle.std.specs.Prelude.{◌≡◌, ◌<◌, length};
 ghost use Rattle.formula.specs.Clauses as spec;
 

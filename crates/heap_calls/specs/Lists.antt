@@ -9,8 +9,9 @@ use Rattle.session.specs.Entry.{reply_number}
 use Rattle.session.specs.Entered.{RightScratch}
 use Rattle.words.specs.Words as words
 use Rattle.words.specs.Words.{word_call, words_fit, each_alone}
-use Rattle.words.specs.Going.{call_at, Told, Part, part_more}
-use Rattle.words.specs.Alone as either
+use Rattle.words.specs.Going.{call_at, Told, Part}
+use Rattle.words.proofs.Going.{part_more}
+use Rattle.words.proofs.Alone as either-laws
 use Rattle.heap_entry.specs.Entry.{heap_mode, entered}
 use Rattle.heap_entry.specs.Kept.{IsGood, kept}
 use Rattle.heap_entry.specs.Checked.{Doubles, heap_sound}
@@ -24,25 +25,25 @@ module _ (n m : ℕ) (lits : List ℕ) (literals : ℕ) (ends vars : List ℕ) w
   pub alone : (ws : List ℕ) (answers : ℕ) (s : Session n m (heap_ops n lits ends)) → Doubles s.chooser → status (entered_words ws answers s) ≡ 0
       → entered_words ws answers s ≡ done none (each_alone n m (heap_mode n m lits ends) lits literals ends vars ws s)
   unfolding heap_sound
-  alone ws answers s t = either.alone n m (heap_mode n m lits ends) lits literals ends vars (heap_sound n m lits ends) ws answers s t
+  alone ws answers s t = either-laws.alone n m (heap_mode n m lits ends) lits literals ends vars (heap_sound n m lits ends) ws answers s t
 
   -- of a refused one that fits, each call alone changes nothing and tells nothing
   pub refused_alone : (ws : List ℕ) (answers : ℕ) (s : Session n m (heap_ops n lits ends)) → words_fit (length ws) answers ≡ true → status (entered_words ws answers s) ≢ 0
       → each_alone n m (heap_mode n m lits ends) lits literals ends vars ws s ≡ (s, [])
-  refused_alone = either.refused_alone n m (heap_mode n m lits ends) lits literals ends vars
+  refused_alone = either-laws.refused_alone n m (heap_mode n m lits ends) lits literals ends vars
 
   -- a call alone in a list is the call on its entry point
   pub one_entered : (l a b : ℕ) (q : Asked) (s : Session n m (heap_ops n lits ends)) → Doubles s.chooser → word_call vars l a b ≡ some (asked q) → RightScratch q → status (entered_words (l ∷ (a ∷ (b ∷ []))) 2 s) ≡ 0
       → let x = entered n m lits literals ends q s in
       entered_words (l ∷ (a ∷ (b ∷ []))) 2 s ≡ done none (leaves s x, status x ∷ (reply_number (reply x) ∷ []))
   unfolding heap_sound
-  one_entered l a b q s t = either.one_entered n m (heap_mode n m lits ends) lits literals ends vars (heap_sound n m lits ends) l a b q s t
+  one_entered l a b q s t = either-laws.one_entered n m (heap_mode n m lits ends) lits literals ends vars (heap_sound n m lits ends) l a b q s t
 
   -- an accepted list leaves a good session
   pub list_good : (ws : List ℕ) (answers : ℕ) (s : Session n m (heap_ops n lits ends)) → Doubles s.chooser → status (entered_words ws answers s) ≡ 0 → (out : List ℕ)
       → IsGood n m lits ends (leaves (s, out) (entered_words ws answers s)).0
   unfolding heap_sound
-  list_good ws answers s t = either.list_good n m (heap_mode n m lits ends) lits literals ends vars (heap_sound n m lits ends) ws answers s t
+  list_good ws answers s t = either-laws.list_good n m (heap_mode n m lits ends) lits literals ends vars (heap_sound n m lits ends) ws answers s t
 
 -- one call more of a list on a good session
 pub heap_more : (n m : ℕ) (lits ends : List ℕ) {vars ws : List ℕ} {k i : ℕ} {s u v : Session n m (heap_ops n lits ends)} {out out' : List ℕ}

@@ -22,7 +22,7 @@ use Rattle.heap_saved.specs.Reader.{Savable}
 use Rattle.heap_saved.specs.Pieces as heap-pieces
 use Rattle.sheet.specs.declared.Place.{Place}
 use Rattle.sheet.specs.Stages.{in_heap}
-use Rattle.sheet.specs.SessionLines.{along_over, along_last}
+use Rattle.sheet.proofs.SessionLines.{along_over, along_last}
 use Rattle.heap_sheet.specs.Lines.{HeapAlong}
 use Rattle.saved_sheet.specs.Sheets.{text_room}
 use Rattle.saved_run.specs.Ends.{stage_text, Saves}

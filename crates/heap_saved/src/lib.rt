@@ -1,5 +1,6 @@
 // Saved sessions in heap mode: a session that was lent is written as text. The entry points ask nothing of their callers.
 #![tactic(auto)]
+
 ghost use Rattle.session.specs.Entry.{Answered};
 ghost use Rattle.heap_session.specs.Memory.{session_of};
 ghost use Rattle.heap_entry.specs.Entry.{heap_mode};
@@ -35,8 +36,7 @@ pub fn save(
     s: HeapState,
     text: &mut [u8],
 ) -> TextAnswer
-    ensures {
-        let before = session_of n clauses lits.now ends.now
+    ensures { let before = session_of n clauses lits.now ends.now
         values.now levels.now reasons.now trail.now opened.now
         activity.now heap.now indices.now decision.now s in
         let mode = heap_mode n clauses lits.now ends.now in

@@ -11,9 +11,10 @@ use Rattle.sheet.specs.Sheet.{answer_line}
 use Rattle.sheet.specs.Stages.{in_heap}
 use Rattle.forms.specs.Written.{Wrote}
 use Rattle.sheet.specs.Writing.{reply_of}
-use Rattle.sheet.specs.Replies.{heap_reply}
+use Rattle.sheet.proofs.Replies.{heap_reply}
 use Rattle.sheet.specs.Running.{line_length, line_from, after, Room}
-use Rattle.sheet.specs.SessionLines.{Along, Mode, along_one}
+use Rattle.sheet.specs.SessionLines.{Along, Mode}
+use Rattle.sheet.proofs.SessionLines.{along_one}
 
 module _ (n : ℕ) (lits ends : List ℕ) where
   -- lines are answered from one session on up to another

@@ -1,5 +1,6 @@
 // The lines of a session in heap mode on a sheet, once the clause lines are read: the session is made fresh and checked once, and its lines are done.
 #![tactic(auto)]
+
 ghost use Rattle.std.specs.Prelude.{◌≡◌, ◌≤◌, length, replicate};
 ghost use Rattle.lit.specs.Numbers as number;
 ghost use Rattle.formula.specs.Good.{GoodClauses};

@@ -9,8 +9,9 @@ use Rattle.session.specs.Entry.{reply_number}
 use Rattle.session.specs.Entered.{RightScratch}
 use Rattle.words.specs.Words as words
 use Rattle.words.specs.Words.{word_call, words_fit, each_alone}
-use Rattle.words.specs.Going.{call_at, Told, Part, part_more}
-use Rattle.words.specs.Alone as either
+use Rattle.words.specs.Going.{call_at, Told, Part}
+use Rattle.words.proofs.Going.{part_more}
+use Rattle.words.proofs.Alone as either-laws
 use Rattle.list_entry.specs.Entry.{list_mode, entered}
 use Rattle.list_session.specs.Kept.{IsGood}
 use Rattle.list_entry.specs.Checked.{kept, list_sound}
@@ -24,25 +25,25 @@ module _ (n m : ℕ) (lits : List ℕ) (literals : ℕ) (ends vars : List ℕ) w
   pub alone : (ws : List ℕ) (answers : ℕ) (s : Session n m (list_ops n lits)) → status (entered_words ws answers s) ≡ 0
       → entered_words ws answers s ≡ done none (each_alone n m (list_mode n m lits) lits literals ends vars ws s)
   unfolding list_sound
-  alone ws answers s = either.alone n m (list_mode n m lits) lits literals ends vars (list_sound n m lits ends) ws answers s tt
+  alone ws answers s = either-laws.alone n m (list_mode n m lits) lits literals ends vars (list_sound n m lits ends) ws answers s tt
 
   -- of a refused one that fits, each call alone changes nothing and tells nothing
   pub refused_alone : (ws : List ℕ) (answers : ℕ) (s : Session n m (list_ops n lits)) → words_fit (length ws) answers ≡ true → status (entered_words ws answers s) ≢ 0
       → each_alone n m (list_mode n m lits) lits literals ends vars ws s ≡ (s, [])
-  refused_alone = either.refused_alone n m (list_mode n m lits) lits literals ends vars
+  refused_alone = either-laws.refused_alone n m (list_mode n m lits) lits literals ends vars
 
   -- a call alone in a list is the call on its entry point
   pub one_entered : (l a b : ℕ) (q : Asked) (s : Session n m (list_ops n lits)) → word_call vars l a b ≡ some (asked q) → RightScratch q → status (entered_words (l ∷ (a ∷ (b ∷ []))) 2 s) ≡ 0
       → let x = entered n m lits literals ends q s in
       entered_words (l ∷ (a ∷ (b ∷ []))) 2 s ≡ done none (leaves s x, status x ∷ (reply_number (reply x) ∷ []))
   unfolding list_sound
-  one_entered l a b q s = either.one_entered n m (list_mode n m lits) lits literals ends vars (list_sound n m lits ends) l a b q s tt
+  one_entered l a b q s = either-laws.one_entered n m (list_mode n m lits) lits literals ends vars (list_sound n m lits ends) l a b q s tt
 
   -- an accepted list leaves a good session
   pub list_good : (ws : List ℕ) (answers : ℕ) (s : Session n m (list_ops n lits)) → status (entered_words ws answers s) ≡ 0 → (out : List ℕ)
       → IsGood n m lits (leaves (s, out) (entered_words ws answers s)).0
   unfolding list_sound
-  list_good ws answers s = either.list_good n m (list_mode n m lits) lits literals ends vars (list_sound n m lits ends) ws answers s tt
+  list_good ws answers s = either-laws.list_good n m (list_mode n m lits) lits literals ends vars (list_sound n m lits ends) ws answers s tt
 
 -- one call more of a list on a good session
 pub list_more : (n m : ℕ) (lits : List ℕ) {vars ws : List ℕ} {k i : ℕ} {s u v : Session n m (list_ops n lits)} {out out' : List ℕ}

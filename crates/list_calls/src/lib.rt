@@ -1,5 +1,6 @@
 // Lists of calls in list mode: the memory that was lent is checked once, then the calls are done and answered one after another.
 #![tactic(auto)]
+
 ghost use Rattle.std.specs.Prelude.{◌≡◌, List, ℕ, ◌+◌, ◌*◌, ◌≤◌, length};
 ghost use Rattle.trail.specs.Memory.{trail_of};
 ghost use Rattle.vmtf.specs.Vmtf.{vmtf_of};
@@ -200,8 +201,7 @@ pub fn enter(
     calls: &[u32],
     answers: &mut [u32],
 ) -> ListAnswer
-    ensures {
-        let before = session_of n clauses lits.now
+    ensures { let before = session_of n clauses lits.now
         values.old levels.old reasons.old trail.old opened.old
         next.old prev.old ts.old s in
         let after = session_of n clauses lits.now

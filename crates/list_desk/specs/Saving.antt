@@ -21,7 +21,7 @@ use Rattle.list_saved.specs.Pieces as list-pieces
 use Rattle.forms.specs.Forms.{vmtf}
 use Rattle.sheet.specs.declared.Place.{Place}
 use Rattle.sheet.specs.Stages.{in_list, opened}
-use Rattle.sheet.specs.SessionLines.{along_over, along_last}
+use Rattle.sheet.proofs.SessionLines.{along_over, along_last}
 use Rattle.list_sheet.specs.Lines.{ListAlong}
 use Rattle.saved_sheet.specs.Sheets.{text_room}
 use Rattle.saved_run.specs.declared.Both.{Both}

@@ -1,5 +1,6 @@
 // Saved sessions in list mode: a session that was lent is written as text. The entry points ask nothing of their callers.
 #![tactic(auto)]
+
 ghost use Rattle.session.specs.Entry.{Answered};
 ghost use Rattle.list_session.specs.Memory.{session_of};
 ghost use Rattle.list_entry.specs.Entry.{list_mode};
@@ -34,8 +35,7 @@ pub fn save(
     s: ListState,
     text: &mut [u8],
 ) -> TextAnswer
-    ensures {
-        let before = session_of n clauses lits.now
+    ensures { let before = session_of n clauses lits.now
         values.now levels.now reasons.now trail.now opened.now
         next.now prev.now ts.now s in
         let mode = list_mode n clauses lits.now in

@@ -1,5 +1,6 @@
 // Literals and values, from lit.rs and assignments.rs, and the numbers of document 01.
 #![tactic(auto)]
+
 ghost use Rattle.std.specs.Prelude.{◌≡◌, ◌+◌, ◌*◌, ◌/◌, ◌<◌, ◌≤◌, length};
 ghost use Rattle.lit.specs.Lits as spec;
 ghost use Rattle.lit.specs.Unused as unused;

@@ -13,8 +13,7 @@ use trail::TrailState;
 use vsids::VsidsState;
 
 // A fresh session in heap mode in memory that a host lends. Refused, nothing changes.
-#[unsafe(no_mangle)]
-pub extern "C" fn sigvort_heap_fresh(
+pub fn sigvort_heap_fresh(
     n: u32,
     literals: u32,
     clauses: u32,
@@ -65,8 +64,7 @@ pub extern "C" fn sigvort_heap_fresh(
 }
 
 // A list of calls in heap mode on memory that a host lends. Refused, nothing changes.
-#[unsafe(no_mangle)]
-pub extern "C" fn sigvort_heap_calls(
+pub fn sigvort_heap_calls(
     n: u32,
     literals: u32,
     clauses: u32,
@@ -91,8 +89,7 @@ pub extern "C" fn sigvort_heap_calls(
     calls: &[u32],
     answers: &mut [u32],
 ) -> u32
-    ensures {
-        let before = session_of n clauses lits.now ends.now
+    ensures { let before = session_of n clauses lits.now ends.now
         values.old levels.old reasons.old trail.old opened.old
         activity.old heap.old indices.old decision.old (heap_state len.old level.old curr_i.old members.old inc.old decay.old) in
         let after = session_of n clauses lits.now ends.now

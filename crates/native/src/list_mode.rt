@@ -12,8 +12,7 @@ use trail::TrailState;
 use vmtf::VmtfState;
 
 // A fresh session in list mode in memory that a host lends. Refused, nothing changes.
-#[unsafe(no_mangle)]
-pub extern "C" fn sigvort_list_fresh(
+pub fn sigvort_list_fresh(
     n: u32,
     literals: u32,
     clauses: u32,
@@ -61,8 +60,7 @@ pub extern "C" fn sigvort_list_fresh(
 }
 
 // A list of calls in list mode on memory that a host lends. Refused, nothing changes.
-#[unsafe(no_mangle)]
-pub extern "C" fn sigvort_list_calls(
+pub fn sigvort_list_calls(
     n: u32,
     literals: u32,
     clauses: u32,
@@ -86,8 +84,7 @@ pub extern "C" fn sigvort_list_calls(
     calls: &[u32],
     answers: &mut [u32],
 ) -> u32
-    ensures {
-        let before = session_of n clauses lits.now
+    ensures { let before = session_of n clauses lits.now
         values.old levels.old reasons.old trail.old opened.old
         next.old prev.old ts.old (list_state len.old level.old curr_i.old start.old search.old timestamp.old) in
         let after = session_of n clauses lits.now

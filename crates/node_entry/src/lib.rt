@@ -1,5 +1,6 @@
 // The entry points over nodes: those of list mode with the list as a lent slice of nodes. They check the memory that was lent, and ask nothing of their callers.
 #![tactic(auto)]
+
 ghost use Rattle.std.specs.Prelude.{◌≡◌};
 ghost use Rattle.node_entry.specs.Nodes.{nexts, prevs, tss};
 ghost use Rattle.session.specs.Asked.{asks};

@@ -1,5 +1,6 @@
 // Saved sessions over nodes: those of list mode with the list as a lent slice of nodes. The entry points ask nothing of their callers.
 #![tactic(auto)]
+
 ghost use Rattle.session.specs.Entry.{Answered};
 ghost use Rattle.list_session.specs.Memory.{session_of};
 ghost use Rattle.list_entry.specs.Entry.{list_mode, blank};
@@ -28,8 +29,7 @@ pub fn save(
     s: ListState,
     text: &mut [u8],
 ) -> TextAnswer
-    ensures {
-        let before = session_of n clauses lits.now values.now levels.now reasons.now trail.now opened.now (nexts nodes.now) (prevs nodes.now) (tss nodes.now) s in
+    ensures { let before = session_of n clauses lits.now values.now levels.now reasons.now trail.now opened.now (nexts nodes.now) (prevs nodes.now) (tss nodes.now) s in
         let mode = list_mode n clauses lits.now in
         let wanted = entry.wrote n clauses mode lits.now literals ends.now (λ u. saved_list n lits.now ends.now u.trail u.chooser) before text.old in
         Answered wanted text.old result.status result.reply text.new }

@@ -15,7 +15,7 @@ use Rattle.book.specs.Read.{calls_of}
 use Rattle.forms.specs.Text.{newline, lines, occurs}
 use Rattle.forms.specs.Forms.{Mode, vsids, vmtf, call_in}
 use Rattle.sheet.specs.Sheet.{ClauseList, chooser_of, answered}
-use Rattle.sheet.specs.Bounds.{answered_short}
+use Rattle.sheet.proofs.Bounds.{answered_short}
 use Rattle.saved_sheet.specs.Sheets.{Held, text_held, text_room, room_for, after_calls, with_text, held_by, with_text_of, ran_new, held_in, answers_held, carried_on, ran_on}
 use Rattle.saved_sheet.specs.Claims.{Savable, Good}
 use Rattle.saved_sheet.proofs.Widths.{lines_double}

@@ -18,9 +18,10 @@ use Rattle.sheet.specs.declared.clauses.Section.{Section}
 use Rattle.sheet.specs.Sheet.{answer_line, ClauseList, clause_lines, listed, opening, answered}
 use Rattle.sheet.specs.Stages.{reading, on_list, opened, answers, started}
 use Rattle.sheet.specs.Running.{lines_from, line_length, after, next_clause, Room, stage_of, SoFar}
-use Rattle.sheet.specs.ClauseLines.{listed_good, no_clause_line}
-use Rattle.sheet.specs.Section.{session_ended, section_ended}
-use Rattle.sheet.specs.Opening.{mode_of, opening_at, opening_of, at_first, first_told, first_lines, first_answers, no_clauses}
+use Rattle.sheet.proofs.ClauseLines.{listed_good, no_clause_line}
+use Rattle.sheet.proofs.Section.{session_ended, section_ended}
+use Rattle.sheet.specs.Opening.{mode_of, opening_at, opening_of, at_first}
+use Rattle.sheet.proofs.Opening.{first_told, first_lines, first_answers, no_clauses}
 use Rattle.saved_sheet.specs.Sheets.{text_held, text_room, with_text, held_behind, held_first, held_by, with_text_of}
 use Rattle.saved_run.specs.declared.Both.{Both}
 use Rattle.saved_run.specs.declared.Outcome.TheVariants as outcome

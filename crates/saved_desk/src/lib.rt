@@ -1,5 +1,6 @@
-// Sheets with saved sessions, from bytes to bytes: a sheet whose session is saved at its end, and a sheet of calls on a saved session, with the entries that hosts in C and Rust link.
+// Sheets with saved sessions, from bytes to bytes: a sheet whose session is saved at its end, and a sheet of calls on a saved session, and the two of them whose counts have 32 bits, as hosts in C and Rust take them.
 #![tactic(auto)]
+
 ghost use Rattle.std.specs.Prelude.{length};
 ghost use Rattle.saved_sheet.specs.Sheets.{ran_new, ran_on};
 ghost use Rattle.saved_run.specs.Outcomes.{Comes};
@@ -49,13 +50,7 @@ pub fn run_on(old: &[u8], sheet: &[u8], answers: &mut [u8], text: &mut [u8]) -> 
 }
 
 // The entry for hosts of `run_new`: gives the count of bytes written to `answers`, or 4294967295 minus the refusal, and tells that of the text. Refused, nothing changes.
-#[unsafe(no_mangle)]
-pub extern "C" fn sigvort_run_new(
-    sheet: &[u8],
-    answers: &mut [u8],
-    text: &mut [u8],
-    written: &mut u32,
-) -> u32
+pub fn sigvort_run_new(sheet: &[u8], answers: &mut [u8], text: &mut [u8], written: &mut u32) -> u32
     ensures { let x = ran_new sheet.now (length answers.old) (length text.old) in Gives x answers.old text.old written.old result answers.new text.new written.new }
 {
     let r = run_new(sheet, answers, text);
@@ -69,8 +64,7 @@ pub extern "C" fn sigvort_run_new(
 }
 
 // The entry for hosts of `run_on`, in the same way.
-#[unsafe(no_mangle)]
-pub extern "C" fn sigvort_run_on(
+pub fn sigvort_run_on(
     old: &[u8],
     sheet: &[u8],
     answers: &mut [u8],

@@ -6,8 +6,7 @@ use lit::BAD_SAVED;
 use saved_text::form::{Formed, read_form};
 
 // The mode of a saved text, 0 for the heap and 1 for the list, its variables, literals and clauses. Refused, nothing changes.
-#[unsafe(no_mangle)]
-pub extern "C" fn sigvort_saved_counts(
+pub fn sigvort_saved_counts(
     text: &[u8],
     list: &mut u32,
     n: &mut u32,

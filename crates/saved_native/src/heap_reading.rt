@@ -6,8 +6,7 @@ ghost use Rattle.heap_saved.specs.Reader.{heap_reader, memory_of};
 ghost use Rattle.native.specs.Small.{heap_state};
 
 // Reads a saved text of heap mode into memory that a host lends, with the clause list. Refused, nothing changes.
-#[unsafe(no_mangle)]
-pub extern "C" fn sigvort_heap_read(
+pub fn sigvort_heap_read(
     text: &[u8],
     lits: &mut [u32],
     ends: &mut [u32],

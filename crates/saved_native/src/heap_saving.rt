@@ -12,8 +12,7 @@ use trail::TrailState;
 use vsids::VsidsState;
 
 // Writes the text of a session in heap mode that a host lends. Refused, neither the text nor its count changes.
-#[unsafe(no_mangle)]
-pub extern "C" fn sigvort_heap_save(
+pub fn sigvort_heap_save(
     n: u32,
     literals: u32,
     clauses: u32,

@@ -6,8 +6,7 @@ ghost use Rattle.list_saved.specs.Reader.{list_reader, memory_of};
 ghost use Rattle.native.specs.Small.{list_state};
 
 // Reads a saved text of list mode into memory that a host lends, with the clause list. Refused, nothing changes.
-#[unsafe(no_mangle)]
-pub extern "C" fn sigvort_list_read(
+pub fn sigvort_list_read(
     text: &[u8],
     lits: &mut [u32],
     ends: &mut [u32],

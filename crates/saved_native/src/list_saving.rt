@@ -11,8 +11,7 @@ use trail::TrailState;
 use vmtf::VmtfState;
 
 // Writes the text of a session in list mode that a host lends. Refused, neither the text nor its count changes.
-#[unsafe(no_mangle)]
-pub extern "C" fn sigvort_list_save(
+pub fn sigvort_list_save(
     n: u32,
     literals: u32,
     clauses: u32,

@@ -17,7 +17,7 @@ use Rattle.forms.specs.Forms.{Mode, vsids, vmtf, Opening, call_in, codes_in, beg
 use Rattle.sheet.specs.Sheet.{ClauseList, chooser_of, added, clause_lines, listed}
 use Rattle.sheet.specs.Stages.{Stage, reading, in_heap, in_list, on_list, opened, meets, turn, stage_behind}
 use Rattle.sheet.specs.Running.{next_clause}
-use Rattle.sheet.specs.ClauseLines.{no_clause_line}
+use Rattle.sheet.proofs.ClauseLines.{no_clause_line}
 use Rattle.sheet.specs.Counting.{list_of}
 use Rattle.sheet.specs.SessionLines as session
 use Rattle.saved_sheet.specs.Sheets.{Held, text_held, after_calls, held_behind}

@@ -33,7 +33,7 @@ use Rattle.saved_state.specs.Sound.{state_test, Sound}
 use Rattle.saved_state.specs.Judging.{form_or, LoadedIs, ends_length}
 use Rattle.sheet.specs.Stages as spec
 use Rattle.sheet.specs.Stages.{Stage, in_heap, in_list, stage_behind}
-use Rattle.sheet.specs.Turns.{heap_answers, list_answers}
+use Rattle.sheet.proofs.Turns.{heap_answers, list_answers}
 use Rattle.sheet.specs.Running.{Holds}
 use Rattle.sheet.specs.Opening.{at_first}
 use Rattle.saved_sheet.specs.Sheets.{Held, text_room, room_for, heap_held, list_held, held_said, held_of, held_in, carried_on}

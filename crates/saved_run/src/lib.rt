@@ -1,5 +1,6 @@
 // What a run with a saved session comes to: how much it has written, or the refusal of the whole run; and the sizes of its arrays.
 #![tactic(auto)]
+
 ghost use Rattle.std.specs.Prelude.{◌≡◌, true, ◌≤◌};
 ghost use Rattle.lit.specs.Numbers as number;
 ghost use Rattle.saved_run.specs.Carried.{refusal_of};

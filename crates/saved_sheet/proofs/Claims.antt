@@ -39,10 +39,10 @@ use Rattle.saved_state.specs.Sound.{state_test}
 use Rattle.heap_saved.specs.Reader.{heap_reader}
 use Rattle.list_saved.specs.Reader.{list_reader}
 use Rattle.sheet.specs.Sheet.{logged, session_answers, ClauseList, chooser_of, clause_lines, listed, opening, answered, ran}
-use Rattle.sheet.specs.ClauseLines.{listed_good}
+use Rattle.sheet.proofs.ClauseLines.{listed_good}
 use Rattle.sheet.specs.Stages.{in_heap, in_list}
-use Rattle.sheet.specs.Turns.{heap_answers, list_answers}
-use Rattle.sheet.specs.Bounds.{answers_short}
+use Rattle.sheet.proofs.Turns.{heap_answers, list_answers}
+use Rattle.sheet.proofs.Bounds.{answers_short}
 use Rattle.saved_sheet.specs.Sheets.{Held, text_held, room_for, after_calls, with_text, taken, held_behind, held_first, held_by, with_text_of, ran_new, heap_held, list_held, held_said, held_of, held_in, answers_held, carried_on, ran_on}
 use Rattle.saved_sheet.specs.Claims.{calls_on, Savable, Good, read_held, TextOf, TextNew, NewAnswers, NewText, OnText, ForEver, CountedOn, CarriedOn, CarriedAgain, saved_held, gone_on, Day, opened, carried, Told, DayTold, DayTerm3}
 use Rattle.saved_sheet.proofs.Widths.{lines_double}

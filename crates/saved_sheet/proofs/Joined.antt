@@ -79,7 +79,10 @@ module _ (n m : ℕ) (O : Operations) where
   unfolding log_lines step
   log_now s p q [] = refl
   log_now s p q (none ∷ cs) = log_now s p q cs
-  log_now s p q (some c ∷ cs) = ap (λ (l : List Line). log_one n m O (starting_with n m O s) c ∷ l) (log_now _ _ _ cs)
+  log_now s p q (some c ∷ cs) =
+      let u : Run n m O = step n m O (record { now = s; past = p }) c in
+      let w : Run n m O = step n m O (record { now = s; past = q }) c in
+      ap (λ (l : List Line). log_one n m O (starting_with n m O s) c ∷ l) (log_now u.now u.past w.past cs)
 
   logged_joined : (cs ds : List (Option Call)) (i : ℕ) (r : Run n m O)
       → logged i (cs ++ ds) (log_lines n m O r (cs ++ ds)) ≡ logged i cs (log_lines n m O r cs) ++ logged (i + length cs) ds (log_lines n m O (run n m O r (calls_of cs)) ds)

@@ -22,7 +22,6 @@ use Rattle.forms.specs.Spelling.{Whole, behind, hex, reason_text}
 use Rattle.forms.specs.declared.text.Field as field
 use Rattle.forms.specs.declared.text.Field.TheVariants as a_field
 use Rattle.saved_text.specs.declared.cursor.Numbers as numbers
-use Rattle.saved_text.specs.declared.cursor.Row as row
 use Rattle.saved_text.specs.declared.cursor.Row.TheVariants as a_row
 use Rattle.saved_text.specs.Saved.{Kind, up_to, bits, reason, Fits, field_text}
 use Rattle.saved_text.specs.Reading.{field_in}

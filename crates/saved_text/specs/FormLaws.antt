@@ -18,7 +18,6 @@ use Rattle.forms.specs.declared.First.TheVariants as a_first
 use Rattle.forms.specs.Spelling.{Without, Whole, ended, first_line}
 use Rattle.forms.specs.Words.{never, same_some}
 use Rattle.saved_text.specs.declared.cursor.Numbers as numbers
-use Rattle.saved_text.specs.declared.cursor.Row as row
 use Rattle.saved_text.specs.declared.cursor.Row.TheVariants as a_row
 use Rattle.saved_text.specs.declared.form.Past as past
 use Rattle.saved_text.specs.declared.form.Past.TheVariants as a-place

@@ -1,5 +1,5 @@
 -- What the checks of an entry point come to: the first refusal that fits is the answer, and without one the answer is what comes behind.
-use Rattle.std.specs.Prelude.{ℕ, ◌≤◌, ◌≡◌, Bool, cond, leb}
+use Rattle.std.specs.Prelude.{ℕ, ◌≡◌, Bool, cond, leb}
 use Rattle.std.proofs.Math.Path.{refl}
 use Rattle.std.proofs.Common.{sym, arith, le-leb, leb-true, eqb-true, ne_eqb}
 use Rattle.std.proofs.Math.Bool.{true, false}

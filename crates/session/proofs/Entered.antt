@@ -1,6 +1,6 @@
 -- What holds of the entry points in either mode: on good memory a checked call is the call, from any other it is refused, and where it is
 -- accepted it leaves a good session; and what an accepted creation makes.
-use Rattle.std.specs.Prelude.{ℕ, ◌≤◌, ◌≡◌, ◌↔◌, Bool, true, List, length}
+use Rattle.std.specs.Prelude.{ℕ, ◌≡◌, Bool, true, List, length}
 use Rattle.std.proofs.Math.Option.{none}
 use Rattle.std.proofs.Common.{eq-eqb}
 use Rattle.laws.specs.Tests.{true_or_false}

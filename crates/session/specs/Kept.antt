@@ -1,7 +1,6 @@
 -- From a session whose trail is good and whose chooser is good for its values, every call leaves such a session, refused or not. In either
 -- mode, by the laws of its chooser.
-use Rattle.std.specs.Prelude.{ℕ, ◌<◌, ◌≡◌, Bool}
-use mathlib.Core.List.{[], ◌∷◌}
+use Rattle.std.specs.Prelude.{ℕ, Bool}
 use Rattle.trail.specs.Good.{GoodTrail}
 use Rattle.book.specs.Chooser.{Operations, Chooser}
 use Rattle.book.specs.Session.{Session}

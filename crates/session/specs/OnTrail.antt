@@ -1,15 +1,13 @@
 -- The calls that change the trail, as they act on it alone; and that a session with any chooser answers as they do.
-use Rattle.std.specs.Prelude.{ℕ, ◌-◌, ◌≤◌, ◌<◌, ◌≡◌, not, ltb}
-use Rattle.std.proofs.Common.{◌∙◌}
+use Rattle.std.specs.Prelude.{ℕ, ◌-◌, not, ltb}
 use Rattle.std.proofs.Math.Option.{none, some}
 use Rattle.lit.specs.Numbers.{no_variable, bad_reason, assigned}
 use Rattle.lit.specs.Lits.{index, is_assigned}
 use Rattle.trail.specs.Trail.{Trail, enq_assignment, backtrack_safe}
 use Rattle.trail.specs.Trail as trail
 use Rattle.trail.specs.declared.TrailState.{TrailState}
-use Rattle.book.specs.Calls.{learn_unit}
 use Rattle.book.specs.Chooser.{good_reason, Operations}
-use Rattle.book.specs.Session.{Result, done, need, status, Session}
+use Rattle.book.specs.Session.{Result, done, need, Session}
 use Rattle.session.specs.declared.on_trail.TrailAnswer.{TrailAnswer}
 
 -- 'Enqueue is `enq_assignment`; it refuses an assigned variable'

@@ -1,7 +1,6 @@
 -- Term 3 on the entry points' own definition, in either mode: runs as in `book`, of calls that are checked first, whatever each is lent with, and of saves between
 -- them. What is accepted finds the memory good for what it is lent with, so that what every run keeps goes on over that.
 use Rattle.std.specs.Prelude.{ℕ, ◌≡◌, Bool}
-use Rattle.std.proofs.Common.{◌∙◌, true≢false}
 use Rattle.std.proofs.Math.Bool.{true}
 use mathlib.Core.List.{List, [], ◌∷◌, ◌++◌, map}
 use Rattle.book.specs.Calls.{Call}

@@ -1,5 +1,6 @@
 // What both modes share: the calls of a session, and the tests of arguments.
 #![tactic(auto)]
+
 ghost use Rattle.std.specs.Prelude.{◌≡◌};
 ghost use Rattle.book.specs.Chooser.{below, good_reason};
 

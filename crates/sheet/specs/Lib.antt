@@ -4,13 +4,8 @@ pub mod Claim
 pub mod Stages
 pub mod Writing
 pub mod Bounds
-pub mod Replies
-pub mod Called
 pub mod Running
-pub mod Steps
 pub mod ClauseLines
-pub mod Turns
-pub mod Section
 pub mod SessionLines
 pub mod Counting
 pub mod Opening

@@ -1,5 +1,6 @@
 // The run of a call sheet: the answer lines, and the place of a run in the sheet and in the answer buffer.
 #![tactic(auto)]
+
 ghost use Rattle.std.specs.Prelude.{◌≡◌, ◌+◌, ◌≤◌, ◌<◌, length};
 ghost use Rattle.lit.specs.Numbers.{max_sheet};
 ghost use Rattle.sheet.specs.Sheet.{answer_line};

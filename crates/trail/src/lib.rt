@@ -2,6 +2,7 @@
 // trail; and for each opened level the trail's length before its decision. Unused places hold NONE.
 // A slice that a function leaves alone is passed as `&`, so that its contract names the whole trail.
 #![tactic(auto)]
+
 ghost use Rattle.std.specs.Prelude.{◌≡◌, ◌<◌, length, replicate};
 ghost use Rattle.lit.specs.Numbers as number;
 ghost use Rattle.lit.specs.Lits as lits;

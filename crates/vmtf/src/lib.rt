@@ -1,6 +1,7 @@
 // The list chooser: JigSAT's `VMTF` over lent slices: for each variable the one after it, the one before
 // it and its stamp. Here are what a decide finds in it and its check; `move_to_front` makes it and moves variables in it.
 #![tactic(auto)]
+
 ghost use Rattle.std.specs.Prelude.{◌≡◌, List, ℕ, ◌<◌, ◌≤◌, length, replicate};
 ghost use Rattle.lit.specs.Numbers.{NONE as none};
 ghost use Rattle.vmtf.specs.Vmtf as spec;

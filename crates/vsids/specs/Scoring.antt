@@ -1,7 +1,6 @@
 -- Activities and the comparison by them: it has the laws of `Order`, a bump keeps the bounds, and only the bumped variable can come further ahead.
 -- Assumes nothing.
-use Rattle.std.specs.Prelude.{◌≡◌, ℕ, ◌<◌}
-use Rattle.std.proofs.Common.{◌∙◌}
+use Rattle.std.specs.Prelude.{◌≡◌, ℕ}
 use Rattle.heap.specs.Members.{Raises}
 use Rattle.vsids.specs.Vsids.{Vsids, with_scores, before}
 use Rattle.vsids.specs.Good.{Scores}

@@ -1,11 +1,9 @@
 -- A heap with its members in the order of their numbers and no activity above 0, as creation leaves it: it passes the check. Assumes nothing.
-use Rattle.std.specs.Prelude.{◌≡◌, Bool, ◌&&◌, List, ℕ, ◌≤◌, ◌<◌, eqb, Float, length, get_or}
-use Rattle.std.proofs.Common.{◌∙◌}
+use Rattle.std.specs.Prelude.{Bool, ◌&&◌, List, ℕ, eqb, Float, length, get_or}
 use Rattle.std.specs.Float.{nan}
 use Rattle.laws.specs.Every.{every}
 use Rattle.activity.specs.Doubles.{zero_activity}
 use Rattle.activity.specs.Step.{within}
-use Rattle.activity.specs.Upright.{cross→le}
 
 -- an activity is at most hi, without sign and no NaN
 abbrev pub activity_within : Float → List Float → ℕ → Bool

@@ -4,6 +4,4 @@ pub mod Kinds
 pub mod Said
 pub mod Read
 pub mod Going
-pub mod Alone
 pub mod Entered
-pub mod InARow

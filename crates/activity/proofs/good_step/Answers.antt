@@ -1,6 +1,5 @@
 -- `good_step` meets its contract: either part's answer decides.
 use mathlib.Core.Path.{sym, ◌∙◌}
-use borrow.Author.Rules.{rules}
 use Rattle.activity.proofs.good_step.Goals as goal
 
 pub returns-then-within : goal.returns-then-within

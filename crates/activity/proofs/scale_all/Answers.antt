@@ -1,11 +1,10 @@
 -- `scale_all` meets its contract. The loop's invariant: the first i activities are scaled.
-use Prim.Native.Nat.{◌≤◌, ◌<◌, ◌-◌}
+use Prim.Native.Nat.{◌<◌}
 use mathlib.Core.Path.{◌≡◌, refl, ◌∙◌}
 use native.Mathlib.Omega.{arith}
-use borrow.Author.Rules.{rules}
 use lib.ListN.{length, length-set}
 use lib.Ieee.{nan}
-use Rattle.laws.specs.InPlace.{mapped, mapped_at, mapped_next, mapped_end}
+use Rattle.laws.specs.InPlace.{mapped_at, mapped_next, mapped_end}
 use Rattle.activity.specs.Step.{scale}
 use Rattle.activity.proofs.scale_all.Goals as goal
 

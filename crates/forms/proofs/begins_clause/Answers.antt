@@ -1,5 +1,5 @@
 -- `forms::begins_clause` meets its contract: the table's number tells the letter.
-use Rattle.std.proofs.Common.{◌≡◌, ℕ, false, eqb, List, [], ◌∷◌, length, get_or, refl, ap, ◌∙◌, arith, rules}
+use Rattle.std.proofs.Common.{◌≡◌, ℕ, false, eqb, List, [], ◌∷◌, length, get_or, refl, ap, ◌∙◌, arith}
 use Rattle.forms.specs.Letters.{clause_letter}
 use Rattle.forms.specs.Forms.{is_clause, begins_clause}
 use Rattle.forms.specs.Kinds.{kind_number, tells_clause}

@@ -1,5 +1,5 @@
 -- `forms::has_fields` meets its contract.
-use Rattle.std.proofs.Common.{rules, le-leb}
+use Rattle.std.proofs.Common.{le-leb}
 use borrow.Author.Tests.{lt-leb}
 use Rattle.forms.specs.Behind.{tabbed}
 use Rattle.forms.proofs.has_fields.Goals as goal

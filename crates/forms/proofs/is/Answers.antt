@@ -1,5 +1,5 @@
 -- `forms::is` meets its contract: what is left of the field and of the word still decides.
-use Rattle.std.proofs.Common.{◌≡◌, ℕ, ◌+◌, ◌-◌, ◌<◌, ◌≤◌, ◌&&◌, eqb, List, length, get_or, drop, sym, refl, ap, ◌∙◌, arith, drop_of_length-le, rules, eq-eqb, ne_eqb}
+use Rattle.std.proofs.Common.{◌≡◌, ℕ, ◌+◌, ◌<◌, ◌≤◌, ◌&&◌, eqb, List, length, get_or, drop, sym, refl, ap, ◌∙◌, arith, drop_of_length-le, eq-eqb, ne_eqb}
 use Rattle.laws.specs.Tests.{not_true}
 use Rattle.laws.specs.Parts.{drop_next}
 use Rattle.forms.specs.Forms.{is}

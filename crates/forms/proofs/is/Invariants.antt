@@ -1,8 +1,5 @@
-use Rattle.std.proofs.Common.{◌≡◌, ℕ, ◌+◌, ◌-◌, ◌<◌, ◌≤◌, ◌&&◌, eqb, List, length, get_or, drop, sym, refl, ap, ◌∙◌, arith, drop_of_length-le, rules, eq-eqb, ne_eqb}
-use Rattle.laws.specs.Tests.{not_true}
-use Rattle.laws.specs.Parts.{drop_next}
+use Rattle.std.proofs.Common.{◌≡◌, ◌-◌, ◌≤◌, length, drop}
 use Rattle.forms.specs.Forms.{is}
-use Rattle.forms.specs.Laws.{is_same}
 use Rattle.forms.proofs.is.Given as goal
 
 abbrev pub invariant-loop-i : goal.invariant-loop-i

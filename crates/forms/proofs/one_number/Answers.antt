@@ -1,6 +1,5 @@
 -- `forms::one_number` meets its contract: behind the tab stands one field, or a tab that no number takes.
-use Rattle.std.proofs.Common.{ℕ, ◌≤◌, List, length, sym, refl, ap, ◌∙◌, rules}
-use borrow.Author.Tests.{not-true, not-false}
+use Rattle.std.proofs.Common.{ℕ, ◌≤◌, List, length, sym, refl, ap, ◌∙◌}
 use Rattle.forms.specs.Text.{number}
 use Rattle.forms.specs.TextRead.{whole_of}
 use Rattle.forms.specs.Forms.{one}

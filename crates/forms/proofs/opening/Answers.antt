@@ -1,5 +1,5 @@
 -- `forms::opening` meets its contract, word by word.
-use Rattle.std.proofs.Common.{sym, ◌∙◌, rules}
+use Rattle.std.proofs.Common.{sym, ◌∙◌}
 use Rattle.forms.specs.Forms.{mode_in}
 use Rattle.forms.proofs.opening.Goals as goal
 

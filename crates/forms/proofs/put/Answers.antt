@@ -1,5 +1,5 @@
 -- `forms::put` meets its contract: a store past the end changes nothing.
-use Rattle.std.proofs.Common.{sym, rules}
+use Rattle.std.proofs.Common.{sym}
 use lib.Seq.{set_out}
 use Rattle.forms.proofs.put.Goals as goal
 

@@ -1,5 +1,5 @@
 -- `forms::read_call` meets its contract: the table tells the kind, and each kind has its reading.
-use Rattle.std.proofs.Common.{rules, arith}
+use Rattle.std.proofs.Common.{arith}
 use Rattle.forms.specs.Lines.{call_none, call_kind, decay_alone, decay_not_alone, call_one}
 use Rattle.forms.proofs.read_call.Goals as goal
 

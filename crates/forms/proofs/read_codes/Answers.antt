@@ -1,6 +1,5 @@
 -- `forms::read_codes` meets its contract.
-use Rattle.std.proofs.Common.{sym, ◌∙◌, rules}
-use borrow.Author.Tests.{not-true, not-false}
+use Rattle.std.proofs.Common.{sym, ◌∙◌}
 use Rattle.forms.specs.Lines.{codes_none, codes_behind}
 use Rattle.forms.proofs.read_codes.Goals as goal
 

@@ -1,6 +1,5 @@
 -- `forms::read_decay` meets its contract.
-use Rattle.std.proofs.Common.{drop, sym, refl, ◌∙◌, rules}
-use borrow.Author.Tests.{not-true, not-false}
+use Rattle.std.proofs.Common.{drop, sym, refl, ◌∙◌}
 use Rattle.forms.specs.Text.{pattern}
 use Rattle.forms.specs.Forms.{sets_decay, call_with, decay_in}
 use Rattle.forms.specs.Behind.{tabbed_long, untabbed}

@@ -1,5 +1,5 @@
 -- `forms::read_enqueue` meets its contract: the second tab lies between the code and the reason.
-use Rattle.std.proofs.Common.{◌+◌, ◌-◌, ◌<◌, ◌≤◌, length, take, drop, sym, ◌∙◌, arith, rules}
+use Rattle.std.proofs.Common.{◌+◌, ◌-◌, ◌<◌, ◌≤◌, length, take, drop, sym, ◌∙◌, arith}
 use Rattle.forms.specs.Text.{number}
 use Rattle.forms.specs.Forms.{enqueue_in, reason_in}
 use Rattle.laws.specs.Parts.{to_end}

@@ -1,5 +1,5 @@
 -- `forms::read_first` meets its contract: the table tells the letter n.
-use Rattle.std.proofs.Common.{sym, ap, ◌∙◌, rules}
+use Rattle.std.proofs.Common.{sym, ap, ◌∙◌}
 use Rattle.forms.specs.Read.{first_of}
 use Rattle.forms.specs.Lines.{first_none, first_other, first_behind}
 use Rattle.forms.proofs.read_first.Goals as goal

@@ -1,5 +1,5 @@
 -- `forms::read_group` meets its contract: what was counted is the group, unless it is too large.
-use Rattle.std.proofs.Common.{drop, rules}
+use Rattle.std.proofs.Common.{drop}
 use Rattle.forms.specs.Forms.{given, numbers}
 use Rattle.forms.specs.Behind.{behind}
 use Rattle.forms.specs.Told.{counted_bad, counted_are, group_bad, group_long, group_is}

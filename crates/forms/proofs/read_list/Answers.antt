@@ -1,5 +1,5 @@
 -- `forms::read_list` meets its contract, by the places behind the letter.
-use Rattle.std.proofs.Common.{refl, rules}
+use Rattle.std.proofs.Common.{refl}
 use Rattle.forms.specs.Forms.{numbers}
 use Rattle.forms.specs.Behind.{behind_end, behind_other, behind_tab}
 use Rattle.laws.specs.Parts.{to_end}

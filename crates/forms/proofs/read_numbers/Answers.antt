@@ -1,10 +1,10 @@
 -- `forms::read_numbers` meets its contract: each turn reads the field up to the next tab, and what is left still decides.
-use Rattle.std.proofs.Common.{◌≡◌, ◌+◌, ◌-◌, ◌≤◌, length, take, drop, sym, refl, ◌∙◌, arith, length-drop, rules}
+use Rattle.std.proofs.Common.{◌≡◌, ◌+◌, ◌≤◌, length, take, drop, sym, refl, ◌∙◌, arith, length-drop}
 use mathlib.Core.Option.{some}
 use Rattle.lit.specs.Numbers.{NONE}
 use Rattle.forms.specs.Text.{tab, find, number}
 use Rattle.forms.specs.TextLaws.{find_length}
-use Rattle.forms.specs.Counting.{SoFar, so_far_none, count_bad, count_last, count_next}
+use Rattle.forms.specs.Counting.{so_far_none, count_bad, count_last, count_next}
 use Rattle.forms.specs.Words.{number_within}
 use Rattle.forms.specs.Told.{field_is, field_bad}
 use Rattle.forms.proofs.read_numbers.Goals as goal

@@ -1,5 +1,5 @@
 -- `forms::read_one` meets its contract.
-use Rattle.std.proofs.Common.{drop, sym, ◌∙◌, rules}
+use Rattle.std.proofs.Common.{drop, sym, ◌∙◌}
 use Rattle.forms.specs.Text.{number}
 use Rattle.forms.specs.Forms.{given, one}
 use Rattle.forms.specs.Behind.{behind}

@@ -1,5 +1,5 @@
 -- `forms::read_opening` meets its contract: the second tab lies between the number and the mode.
-use Rattle.std.proofs.Common.{◌+◌, ◌-◌, ◌<◌, ◌≤◌, length, take, drop, sym, ap, ◌∙◌, arith, rules}
+use Rattle.std.proofs.Common.{◌+◌, ◌-◌, ◌<◌, ◌≤◌, length, take, drop, sym, ap, ◌∙◌, arith}
 use Rattle.forms.specs.Text.{number}
 use Rattle.forms.specs.Forms.{opening_in}
 use Rattle.forms.specs.Read.{first_of}

@@ -1,5 +1,5 @@
 -- `forms::read_reason` meets its contract, test by test.
-use Rattle.std.proofs.Common.{sym, ◌∙◌, rules, eq-eqb, ne_eqb}
+use Rattle.std.proofs.Common.{sym, ◌∙◌, eq-eqb, ne_eqb}
 use Rattle.forms.specs.Text.{number}
 use Rattle.forms.specs.Forms.{reason_in}
 use Rattle.forms.specs.Told.{whole_is, whole_bad}

@@ -1,6 +1,5 @@
 -- `forms::second_tab` meets its contract.
-use Rattle.std.proofs.Common.{◌≡◌, ℕ, ◌≤◌, List, length, drop, sym, ap, ◌∙◌, arith, length-drop, rules}
-use borrow.Author.Tests.{not-true, not-false}
+use Rattle.std.proofs.Common.{◌≡◌, ℕ, ◌≤◌, List, length, drop, sym, ap, ◌∙◌, arith, length-drop}
 use Rattle.forms.specs.Text.{tab, find}
 use Rattle.forms.specs.TextLaws.{find_length}
 use Rattle.forms.specs.Behind.{tabbed_long, second_tab}

@@ -1,6 +1,5 @@
 -- `check_clauses`: the list, then its variables.
 use mathlib.Core.Path.{sym, ◌∙◌}
-use borrow.Author.Rules.{rules}
 use Rattle.formula.specs.Clauses.{clauses_ok}
 use Rattle.formula.proofs.check_clauses.Goals as goal
 

@@ -1,13 +1,11 @@
 -- `check_ends`: the ends before i never fall, and `from` is the last of them.
-use Prim.Native.Nat.{◌-◌}
 use mathlib.Core.Path.{◌≡◌, refl}
 use native.Mathlib.Omega.{arith}
 use native.Mathlib.Numerals.{add-one}
-use borrow.Author.Rules.{rules}
 use borrow.Author.Tests.{le-leb, lt-leb}
 use lib.ListN.{length}
-use Rattle.laws.specs.Every.{Passed, passed_none, passed_more, passed_all, passed_fails}
-use Rattle.formula.specs.Clauses.{start, no_fall_at, ends_ok}
+use Rattle.laws.specs.Every.{passed_none, passed_more, passed_all, passed_fails}
+use Rattle.formula.specs.Clauses.{no_fall_at, ends_ok}
 use Rattle.formula.proofs.check_ends.Goals as goal
 
 pub loop-i-init : goal.loop-i-init

@@ -1,12 +1,8 @@
 use Prim.Native.Nat.{◌-◌}
-use mathlib.Core.Path.{◌≡◌, refl}
-use native.Mathlib.Omega.{arith}
-use native.Mathlib.Numerals.{add-one}
-use borrow.Author.Rules.{rules}
-use borrow.Author.Tests.{le-leb, lt-leb}
+use mathlib.Core.Path.{◌≡◌}
 use lib.ListN.{length}
-use Rattle.laws.specs.Every.{Passed, passed_none, passed_more, passed_all, passed_fails}
-use Rattle.formula.specs.Clauses.{start, no_fall_at, ends_ok}
+use Rattle.laws.specs.Every.{Passed}
+use Rattle.formula.specs.Clauses.{start, no_fall_at}
 use Rattle.formula.proofs.check_ends.Given as goal
 
 abbrev pub invariant-loop-i : goal.invariant-loop-i

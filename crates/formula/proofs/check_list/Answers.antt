@@ -1,5 +1,4 @@
 -- `check_list`: the limits, then the ends.
-use borrow.Author.Rules.{rules}
 use borrow.Author.Tests.{le-leb, lt-leb}
 use Rattle.formula.specs.Clauses.{list_ok}
 use Rattle.formula.proofs.check_list.Goals as goal

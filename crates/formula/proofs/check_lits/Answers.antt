@@ -1,11 +1,7 @@
 -- `check_lits`: the literals before i pass the test.
-use Prim.Native.Nat.{◌-◌}
 use mathlib.Core.Path.{sym, ◌∙◌}
 use native.Mathlib.Omega.{arith}
-use borrow.Author.Rules.{rules}
-use borrow.Author.Tests.{not-true, not-false}
-use lib.ListN.{length}
-use Rattle.laws.specs.Every.{Passed, passed_none, passed_more, passed_all, passed_fails}
+use Rattle.laws.specs.Every.{passed_none, passed_more, passed_all, passed_fails}
 use Rattle.formula.specs.Clauses.{var_below, vars_below}
 use Rattle.formula.proofs.check_lits.Goals as goal
 

@@ -1,11 +1,7 @@
 use Prim.Native.Nat.{◌-◌}
-use mathlib.Core.Path.{sym, ◌∙◌}
-use native.Mathlib.Omega.{arith}
-use borrow.Author.Rules.{rules}
-use borrow.Author.Tests.{not-true, not-false}
 use lib.ListN.{length}
-use Rattle.laws.specs.Every.{Passed, passed_none, passed_more, passed_all, passed_fails}
-use Rattle.formula.specs.Clauses.{var_below, vars_below}
+use Rattle.laws.specs.Every.{Passed}
+use Rattle.formula.specs.Clauses.{var_below}
 use Rattle.formula.proofs.check_lits.Given as goal
 
 abbrev pub invariant-loop-i : goal.invariant-loop-i

@@ -1,5 +1,4 @@
 -- `clause`: the part between the two ends.
-use borrow.Author.Rules.{rules}
 use Rattle.formula.proofs.clause.Goals as goal
 
 pub returns : goal.returns

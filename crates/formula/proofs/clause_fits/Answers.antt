@@ -1,5 +1,4 @@
 -- `clause_fits`: the limits, then the variables.
-use borrow.Author.Rules.{rules}
 use borrow.Author.Tests.{lt-ltb, le-ltb, le-leb, lt-leb}
 use Rattle.formula.specs.Clauses.{clause_fits}
 use Rattle.formula.proofs.clause_fits.Goals as goal

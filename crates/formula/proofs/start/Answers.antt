@@ -1,7 +1,6 @@
 -- `start`: a clause but the first starts where the one before it ends.
 use mathlib.Core.Path.{sym}
 use native.Mathlib.Omega.{arith}
-use borrow.Author.Rules.{rules}
 use Rattle.formula.specs.Good.{start_later}
 use Rattle.formula.proofs.start.Goals as goal
 

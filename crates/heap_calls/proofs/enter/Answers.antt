@@ -4,7 +4,7 @@ use lib.ListN.{length}
 use borrow.Author.Rules.{rules}
 use Rattle.session.proofs.Entered.{passed_good}
 use Rattle.words.specs.Words.{words_fit}
-use Rattle.words.specs.Entered.{fit_thirds, list_refused, list_ran}
+use Rattle.words.proofs.Entered.{fit_thirds, list_refused, list_ran}
 use Rattle.heap_session.specs.Memory.{session_of}
 use Rattle.heap_entry.specs.Entry.{heap_mode}
 use Rattle.heap_entry.specs.Checked.{heap_sound}

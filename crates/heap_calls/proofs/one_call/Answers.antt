@@ -1,7 +1,6 @@
 -- `heap_calls::one_call` meets its contract: the call is answered, and its answer written.
 use Rattle.choosers.specs.Heap.{heap_ops}
-use Rattle.words.specs.Going.{one_told}
-use borrow.Author.Rules.{rules}
+use Rattle.words.proofs.Going.{one_told}
 use Rattle.heap_calls.proofs.one_call.Goals as goal
 
 pub put-requires : goal.put-requires

@@ -1,11 +1,8 @@
 -- `heap_calls::run_calls` meets its contract: each call that is done leaves the run's end where it was.
 use Prim.Native.Nat.{◌-◌}
-use mathlib.Core.Path.{sym, ◌∙◌}
 use native.Mathlib.Omega.{arith}
 use Rattle.choosers.specs.Heap.{heap_ops}
-use Rattle.heap_session.specs.Memory.{session_of}
-use Rattle.heap_entry.specs.Kept.{IsGood}
-use Rattle.words.specs.Going.{Part, part_none, part_over}
+use Rattle.words.proofs.Going.{part_none, part_over}
 use Rattle.heap_calls.specs.Lists.{heap_more}
 use Rattle.heap_calls.proofs.run_calls.Goals as goal
 

@@ -1,5 +1,5 @@
 -- `heap_entry::enter` meets its contract: a refusal is the answer; without one the memory is good, and the step answers.
-use mathlib.Core.Path.{refl, sym, ◌∙◌}
+use mathlib.Core.Path.{sym, ◌∙◌}
 use borrow.Author.Rules.{rules}
 use Rattle.session.specs.Asked.{asks}
 use Rattle.session.proofs.Checks.{refused, accepted}

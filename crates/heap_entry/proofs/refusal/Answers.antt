@@ -1,7 +1,5 @@
 -- `heap_entry::refusal` meets its contract: the state is checked where the sizes are right.
 use mathlib.Core.Path.{sym, ◌∙◌}
-use borrow.Author.Rules.{rules}
-use borrow.Author.Tests.{not-true, not-false}
 use Rattle.vsids.specs.Vsids.{vsids_of}
 use Rattle.book.specs.Session.{need}
 use Rattle.session.specs.Entry.{checked}

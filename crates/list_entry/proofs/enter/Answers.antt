@@ -1,11 +1,10 @@
 -- `list_entry::enter` meets its contract: a refusal is the answer; without one the memory is good, and the step answers.
-use mathlib.Core.Path.{refl, sym, ◌∙◌}
-use borrow.Author.Rules.{rules}
+use mathlib.Core.Path.{sym, ◌∙◌}
 use borrow.Author.Tests.{ne_eqb}
 use Rattle.session.specs.Asked.{asks}
-use Rattle.session.specs.Checks.{refused, accepted}
+use Rattle.session.proofs.Checks.{refused, accepted}
 use Rattle.session.specs.Mode.{entered}
-use Rattle.session.specs.Entered.{admitted}
+use Rattle.session.proofs.Entered.{admitted}
 use Rattle.list_session.specs.Memory.{session_of}
 use Rattle.list_session.specs.Scratch.{left}
 use Rattle.list_entry.specs.Entry.{list_mode}

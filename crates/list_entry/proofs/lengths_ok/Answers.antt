@@ -1,7 +1,5 @@
 -- `list_entry::lengths_ok` meets its contract: one test after the other.
 use mathlib.Core.Path.{sym, ◌∙◌}
-use borrow.Author.Rules.{rules}
-use borrow.Author.Tests.{not-true, not-false}
 use Rattle.session.specs.Mode.{lengths_ok}
 use Rattle.list_entry.proofs.lengths_ok.Goals as goal
 

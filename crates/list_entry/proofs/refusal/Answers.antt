@@ -1,11 +1,9 @@
 -- `list_entry::refusal` meets its contract: the state is checked where the sizes are right.
 use mathlib.Core.Path.{sym, ◌∙◌}
-use borrow.Author.Rules.{rules}
-use borrow.Author.Tests.{not-true, not-false}
 use Rattle.vmtf.specs.Vmtf.{vmtf_of}
 use Rattle.book.specs.Session.{need}
 use Rattle.session.specs.Entry.{checked}
-use Rattle.session.specs.Checks.{size_refused, size_passed, size_accepted}
+use Rattle.session.proofs.Checks.{size_refused, size_passed, size_accepted}
 use Rattle.session.specs.Sizes.{sizes_right}
 use Rattle.list_entry.specs.Checked.{list_sized}
 use Rattle.list_entry.proofs.refusal.Goals as goal

@@ -1,5 +1,5 @@
 -- `list_session::decide` meets its contract: by what `get_next` found; the variable that it picks has room on the trail.
-use mathlib.Core.Path.{refl, sym, ap, subst, ◌∙◌}
+use mathlib.Core.Path.{refl, sym, ap, subst}
 use borrow.Author.Tests.{le-ltb}
 use Rattle.trail.specs.Laws.{not_assigned}
 use Rattle.vmtf.specs.Vmtf.{vmtf_of}
@@ -9,7 +9,6 @@ use Rattle.book.specs.Session.{call}
 use Rattle.choosers.specs.List.{next_of}
 use Rattle.session.proofs.Outcomes.{failed, chosen, none_open, past_open_lem}
 use Rattle.session.proofs.OnTrail.{decision_room}
-use borrow.Author.Rules.{rules}
 use Rattle.list_session.proofs.decide.Goals as goal
 
 pub returns-then-p-ge2 : goal.returns-then-p-ge2

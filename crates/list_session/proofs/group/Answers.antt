@@ -7,7 +7,6 @@ use Rattle.vmtf.specs.Sort.{group_apart}
 use Rattle.book.specs.Session.{call, tuned}
 use Rattle.session.proofs.Outcomes.{failed, passed, rechosen}
 use Rattle.choosers.specs.List.{below_each}
-use borrow.Author.Rules.{rules}
 use Rattle.list_session.proofs.group.Goals as goal
 
 pub returns-then-not-vars_below : goal.returns-then-not-vars_below

@@ -1,6 +1,5 @@
 -- `list_session::group_within` meets its contract: the front of the scratch is as long as the group.
 use lib.Seq.{length-take-le}
-use borrow.Author.Rules.{rules}
 use Rattle.list_session.proofs.group_within.Goals as goal
 
 pub group-requires : goal.group-requires

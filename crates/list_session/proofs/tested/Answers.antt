@@ -1,5 +1,4 @@
 -- `list_session::tested` meets its contract: by its test.
-use borrow.Author.Rules.{rules}
 use Rattle.list_session.proofs.tested.Goals as goal
 
 pub returns-then-ok : goal.returns-then-ok

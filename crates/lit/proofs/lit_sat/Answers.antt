@@ -1,5 +1,4 @@
 -- `lit::lit_sat` meets its contract: the polarity is the callee's.
-use borrow.Author.Rules.{rules}
 use Rattle.lit.proofs.lit_sat.Goals as goal
 
 pub returns : goal.returns

@@ -1,5 +1,4 @@
 -- `lit::lit_unsat` meets its contract: the polarity is 0 or 1, so that 1 less it is one too.
-use borrow.Author.Rules.{rules}
 use Rattle.lit.proofs.lit_unsat.Goals as goal
 
 pub returns : goal.returns

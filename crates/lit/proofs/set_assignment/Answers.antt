@@ -1,5 +1,4 @@
 -- `lit::set_assignment` meets its contract: the polarity is the callee's.
-use borrow.Author.Rules.{rules}
 use Rattle.lit.proofs.set_assignment.Goals as goal
 
 pub returns : goal.returns

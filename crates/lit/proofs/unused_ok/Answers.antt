@@ -1,12 +1,9 @@
 -- `unused_ok` meets its contract: what is known of the places passed so far is that they pass the test, or not.
-use Prim.Native.Nat.{◌≤◌, ◌-◌}
 use mathlib.Core.Path.{◌≡◌, sym}
-use mathlib.Core.Logic.{⊎_elim}
 use native.Mathlib.Omega.{arith}
-use borrow.Author.Rules.{rules}
 use borrow.Author.Tests.{lt-ltb, le-ltb, eq-eqb, ne_eqb}
 use lib.ListN.{length}
-use Rattle.laws.specs.Every.{every, every_all, flag_stays, flag_falls}
+use Rattle.laws.specs.Every.{every_all, flag_stays, flag_falls}
 use Rattle.lit.specs.Unused.{none_at, unused_ok}
 use Rattle.lit.proofs.unused_ok.Goals as goal
 use Rattle.lit.proofs.unused_ok.Goals.{else-a-i, then-a-i}

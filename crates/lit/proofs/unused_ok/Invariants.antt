@@ -1,12 +1,8 @@
 use Prim.Native.Nat.{◌≤◌, ◌-◌}
-use mathlib.Core.Path.{◌≡◌, sym}
-use mathlib.Core.Logic.{⊎_elim}
-use native.Mathlib.Omega.{arith}
-use borrow.Author.Rules.{rules}
-use borrow.Author.Tests.{lt-ltb, le-ltb, eq-eqb, ne_eqb}
+use mathlib.Core.Path.{◌≡◌}
 use lib.ListN.{length}
-use Rattle.laws.specs.Every.{every, every_all, flag_stays, flag_falls}
-use Rattle.lit.specs.Unused.{none_at, unused_ok}
+use Rattle.laws.specs.Every.{every}
+use Rattle.lit.specs.Unused.{none_at}
 use Rattle.lit.proofs.unused_ok.Given as goal
 
 abbrev pub invariant-loop-i : goal.invariant-loop-i

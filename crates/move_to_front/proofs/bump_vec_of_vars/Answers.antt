@@ -6,7 +6,6 @@ use native.Mathlib.Omega.{arith}
 use lib.ListN.{replicate}
 use Rattle.vmtf.specs.Vmtf.{vmtf_of, move_all, bump_vec_of_vars}
 use Rattle.vmtf.specs.Sort.{by_stamp_vars}
-use borrow.Author.Rules.{rules}
 use Rattle.move_to_front.proofs.bump_vec_of_vars.Goals as goal
 
 pub move_all-r-requires : goal.move_all-r-requires

@@ -1,11 +1,8 @@
 -- The loop's invariant: moving on from place i gives the goal, and the list stays safe.
-use Prim.Native.Nat.{ℕ, ◌≤◌, ◌<◌, ◌-◌}
-use mathlib.Core.Path.{◌≡◌, refl, sym, ◌∙◌}
-use mathlib.Core.List.{List}
+use Prim.Native.Nat.{◌≤◌, ◌<◌}
+use mathlib.Core.Path.{refl, sym, ◌∙◌}
 use native.Mathlib.Omega.{arith}
-use borrow.Author.Rules.{rules}
-use lib.ListN.{length, drop}
-use Rattle.vmtf.specs.Vmtf.{Vmtf, vmtf_of, move_all, Safe}
+use lib.ListN.{length}
 use Rattle.vmtf.specs.Laws.{moves_step, moves_end, move_safe}
 use Rattle.move_to_front.proofs.move_all.Goals as goal
 

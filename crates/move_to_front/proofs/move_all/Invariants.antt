@@ -1,11 +1,8 @@
-use Prim.Native.Nat.{ℕ, ◌≤◌, ◌<◌, ◌-◌}
-use mathlib.Core.Path.{◌≡◌, refl, sym, ◌∙◌}
+use Prim.Native.Nat.{ℕ, ◌≤◌, ◌-◌}
+use mathlib.Core.Path.{◌≡◌}
 use mathlib.Core.List.{List}
-use native.Mathlib.Omega.{arith}
-use borrow.Author.Rules.{rules}
 use lib.ListN.{length, drop}
 use Rattle.vmtf.specs.Vmtf.{Vmtf, vmtf_of, move_all, Safe}
-use Rattle.vmtf.specs.Laws.{moves_step, moves_end, move_safe}
 use Rattle.move_to_front.proofs.move_all.Given as goal
 
 pub record Moving (vars : List ℕ) (n : ℕ) (goal : Vmtf) (i : ℕ) (l : Vmtf) : Type 0 where

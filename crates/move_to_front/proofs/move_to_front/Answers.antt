@@ -5,7 +5,6 @@ use borrow.Author.Tests.{eq-eqb, ne_eqb}
 use Rattle.vmtf.specs.Vmtf.{Safe, vmtf_of, relink, tick}
 use Rattle.vmtf.specs.Laws.{relink_safe}
 use Rattle.vmtf.specs.Vmtf.{move_to_front}
-use borrow.Author.Rules.{rules}
 use Rattle.move_to_front.proofs.move_to_front.Goals as goal
 
 pub returns-then-tomove-s : goal.returns-then-tomove-s

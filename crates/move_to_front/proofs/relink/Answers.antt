@@ -6,7 +6,6 @@ use lib.ListN.{length, get_or, length-set}
 use borrow.Author.Tests.{eq-eqb, ne_eqb}
 use Rattle.lit.specs.Numbers.{NONE}
 use Rattle.vmtf.specs.Vmtf.{relink}
-use borrow.Author.Rules.{rules}
 use Rattle.move_to_front.proofs.relink.Goals as goal
 use Rattle.move_to_front.proofs.relink.Goals.{Start}
 

@@ -1,11 +1,8 @@
 -- The loop's invariant: stamping on from curr with score gives the goal.
-use Prim.Native.Nat.{ℕ, ◌≤◌, ◌<◌}
-use mathlib.Core.Path.{◌≡◌, refl, sym, ◌∙◌}
-use mathlib.Core.List.{List}
+use Prim.Native.Nat.{◌<◌}
+use mathlib.Core.Path.{refl, sym, ◌∙◌}
 use native.Mathlib.Omega.{arith}
-use borrow.Author.Rules.{rules}
 use lib.ListN.{length, length-set}
-use Rattle.vmtf.specs.Vmtf.{renumber, Links}
 use Rattle.vmtf.specs.Laws.{renumber_none, renumber_last, renumber_step}
 use Rattle.move_to_front.proofs.renumber.Goals as goal
 use Rattle.move_to_front.proofs.renumber.Goals.{In-loop-curr}

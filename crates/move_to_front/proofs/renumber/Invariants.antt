@@ -1,11 +1,8 @@
-use Prim.Native.Nat.{ℕ, ◌≤◌, ◌<◌}
-use mathlib.Core.Path.{◌≡◌, refl, sym, ◌∙◌}
+use Prim.Native.Nat.{ℕ, ◌≤◌}
+use mathlib.Core.Path.{◌≡◌}
 use mathlib.Core.List.{List}
-use native.Mathlib.Omega.{arith}
-use borrow.Author.Rules.{rules}
-use lib.ListN.{length, length-set}
+use lib.ListN.{length}
 use Rattle.vmtf.specs.Vmtf.{renumber, Links}
-use Rattle.vmtf.specs.Laws.{renumber_none, renumber_last, renumber_step}
 use Rattle.move_to_front.proofs.renumber.Given as goal
 
 pub record Renumbering (next : List ℕ) (n : ℕ) (goal : List ℕ) (score curr : ℕ) (ts : List ℕ) : Type 0 where

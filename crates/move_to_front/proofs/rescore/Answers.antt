@@ -1,6 +1,5 @@
 -- `move_to_front::rescore` meets its contract: it is `renumber` from the front.
 use Rattle.vmtf.specs.Vmtf.{rescore}
-use borrow.Author.Rules.{rules}
 use Rattle.move_to_front.proofs.rescore.Goals as goal
 
 pub returns : goal.returns

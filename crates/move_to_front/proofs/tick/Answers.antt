@@ -1,7 +1,6 @@
 -- `move_to_front::tick` meets its contract: after the largest stamp the list is what `rescore` leaves, else only the timestamp moves.
 use borrow.Author.Tests.{eq-eqb, ne_eqb}
 use Rattle.vmtf.specs.Vmtf.{tick}
-use borrow.Author.Rules.{rules}
 use Rattle.move_to_front.proofs.tick.Goals as goal
 
 pub returns-then-s-eq-MAX_STAMP : goal.returns-then-s-eq-MAX_STAMP

@@ -1,6 +1,5 @@
 -- `trail::enq_assignment` meets its contract: each store is the definition's.
 use Rattle.trail.specs.Trail.{enq_assignment}
-use borrow.Author.Rules.{rules}
 use Rattle.trail.proofs.enq_assignment.Goals as goal
 
 pub returns : goal.returns

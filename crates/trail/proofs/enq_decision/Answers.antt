@@ -1,6 +1,5 @@
 -- `trail::enq_decision` meets its contract: each store is the definition's.
 use Rattle.trail.specs.Trail.{enq_decision}
-use borrow.Author.Rules.{rules}
 use Rattle.trail.proofs.enq_decision.Goals as goal
 
 pub returns : goal.returns

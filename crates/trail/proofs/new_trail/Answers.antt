@@ -1,6 +1,5 @@
 -- `trail::new_trail` meets its contract: each list is filled.
 use Rattle.trail.specs.Trail.{fresh_trail}
-use borrow.Author.Rules.{rules}
 use Rattle.trail.proofs.new_trail.Goals as goal
 
 pub returns : goal.returns

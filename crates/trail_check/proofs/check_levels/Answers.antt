@@ -1,7 +1,5 @@
 -- `trail_check::check_levels` meets its contract: one test after the other.
 use mathlib.Core.Path.{sym, ◌∙◌}
-use borrow.Author.Rules.{rules}
-use borrow.Author.Tests.{not-true, not-false}
 use Rattle.trail_check.proofs.check_levels.Goals as goal
 
 pub returns-then-not-opened_ok : goal.returns-then-not-opened_ok

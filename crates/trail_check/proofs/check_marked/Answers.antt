@@ -1,7 +1,5 @@
 -- `trail_check::check_marked` meets its contract: once the places pass, the marks say which variables the trail holds.
 use mathlib.Core.Path.{sym, ◌∙◌}
-use native.Mathlib.Omega.{arith}
-use borrow.Author.Tests.{not-true, not-false}
 use Rattle.trail_check.proofs.Marks.{covered_held}
 use Rattle.trail_check.proofs.check_marked.Goals as goal
 

@@ -1,5 +1,4 @@
 -- `trail_check::check_places` meets its contract: the marks set up are enough, and mark nothing.
-use native.Mathlib.Omega.{arith}
 use Rattle.lit.specs.Numbers.{max_vars}
 use Rattle.trail_check.proofs.Marks.{no_marks}
 use Rattle.trail_check.proofs.check_places.Goals as goal

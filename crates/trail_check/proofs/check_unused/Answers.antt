@@ -1,7 +1,5 @@
 -- `trail_check::check_unused` meets its contract: one test after the other.
 use mathlib.Core.Path.{sym, ◌∙◌}
-use borrow.Author.Rules.{rules}
-use borrow.Author.Tests.{not-true, not-false}
 use Rattle.trail_check.proofs.check_unused.Goals as goal
 
 pub returns-then-not-unused_ok : goal.returns-then-not-unused_ok

@@ -1,12 +1,5 @@
 use Prim.Native.Nat.{◌-◌}
-use mathlib.Core.Path.{sym, ◌∙◌}
-use native.Mathlib.Omega.{arith}
-use borrow.Author.Rules.{rules}
-use borrow.Author.Tests.{not-true, not-false}
-use Rattle.laws.specs.Every.{every_all}
-use Rattle.trail_check.specs.Checked.{Openings}
-use Rattle.trail_check.proofs.Checked.{opened_right}
-use Rattle.trail_check.proofs.Rows.{Rows, row_more, row_fails, row_last}
+use Rattle.trail_check.proofs.Rows.{Rows}
 use Rattle.trail_check.proofs.levels_ok.Given as goal
 
 abbrev pub invariant-loop-l : goal.invariant-loop-l

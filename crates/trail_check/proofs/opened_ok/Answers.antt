@@ -1,11 +1,8 @@
 -- `trail_check::opened_ok` meets its contract: the levels passed so far pass the test.
-use Prim.Native.Nat.{◌-◌}
 use mathlib.Core.Path.{sym, ◌∙◌}
 use native.Mathlib.Omega.{arith}
-use borrow.Author.Rules.{rules}
-use borrow.Author.Tests.{not-true, not-false}
-use Rattle.laws.specs.Every.{Passed, passed_none, passed_more, passed_all, passed_fails}
-use Rattle.trail_check.specs.Check.{level_ok, opened_ok}
+use Rattle.laws.specs.Every.{passed_none, passed_more, passed_all, passed_fails}
+use Rattle.trail_check.specs.Check.{opened_ok}
 use Rattle.trail_check.proofs.opened_ok.Goals as goal
 
 pub loop-k-init : goal.loop-k-init

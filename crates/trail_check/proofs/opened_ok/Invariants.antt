@@ -1,10 +1,6 @@
 use Prim.Native.Nat.{◌-◌}
-use mathlib.Core.Path.{sym, ◌∙◌}
-use native.Mathlib.Omega.{arith}
-use borrow.Author.Rules.{rules}
-use borrow.Author.Tests.{not-true, not-false}
-use Rattle.laws.specs.Every.{Passed, passed_none, passed_more, passed_all, passed_fails}
-use Rattle.trail_check.specs.Check.{level_ok, opened_ok}
+use Rattle.laws.specs.Every.{Passed}
+use Rattle.trail_check.specs.Check.{level_ok}
 use Rattle.trail_check.proofs.opened_ok.Given as goal
 
 abbrev pub invariant-loop-k : goal.invariant-loop-k

@@ -1,13 +1,10 @@
 -- `trail_check::places_ok` meets its contract: the places passed so far pass the test, and their variables are marked.
-use Prim.Native.Nat.{◌-◌}
 use mathlib.Core.Path.{◌≡◌, refl, sym, ◌∙◌}
 use mathlib.Core.Bool.{true, false≢true}
 use native.Mathlib.Omega.{arith}
-use borrow.Author.Rules.{rules}
-use borrow.Author.Tests.{not-true, not-false}
 use Rattle.laws.specs.Every.{passed_none, passed_all, passed_fails}
 use Rattle.trail_check.specs.Check.{place_ok, places_ok}
-use Rattle.trail_check.proofs.Marks.{Marking, at_place, place_var, mark_place}
+use Rattle.trail_check.proofs.Marks.{at_place, place_var, mark_place}
 use Rattle.trail_check.proofs.places_ok.Goals as goal
 use Rattle.trail_check.proofs.places_ok.Goals.{After-literal_ok, Else-not-literal_ok}
 

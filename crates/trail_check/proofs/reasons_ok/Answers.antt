@@ -1,12 +1,8 @@
 -- `trail_check::reasons_ok` meets its contract: the variables passed so far pass the test.
-use Prim.Native.Nat.{◌-◌}
 use mathlib.Core.Path.{sym, ◌∙◌}
 use native.Mathlib.Omega.{arith}
-use borrow.Author.Rules.{rules}
-use lib.ListN.{length}
-use borrow.Author.Tests.{not-true, not-false}
-use Rattle.laws.specs.Every.{Passed, passed_none, passed_more, passed_all, passed_fails}
-use Rattle.trail_check.specs.Check.{reason_ok, reasons_ok}
+use Rattle.laws.specs.Every.{passed_none, passed_more, passed_all, passed_fails}
+use Rattle.trail_check.specs.Check.{reasons_ok}
 use Rattle.trail_check.proofs.reasons_ok.Goals as goal
 
 pub loop-v-init : goal.loop-v-init

@@ -1,11 +1,7 @@
 use Prim.Native.Nat.{◌-◌}
-use mathlib.Core.Path.{sym, ◌∙◌}
-use native.Mathlib.Omega.{arith}
-use borrow.Author.Rules.{rules}
 use lib.ListN.{length}
-use borrow.Author.Tests.{not-true, not-false}
-use Rattle.laws.specs.Every.{Passed, passed_none, passed_more, passed_all, passed_fails}
-use Rattle.trail_check.specs.Check.{reason_ok, reasons_ok}
+use Rattle.laws.specs.Every.{Passed}
+use Rattle.trail_check.specs.Check.{reason_ok}
 use Rattle.trail_check.proofs.reasons_ok.Given as goal
 
 abbrev pub invariant-loop-v : goal.invariant-loop-v

@@ -1,13 +1,11 @@
 -- `trail_check::row_ok` meets its contract: the places passed so far lie below the row or have its level.
-use Prim.Native.Nat.{◌-◌, ◌≤◌, ◌<◌}
-use mathlib.Core.Path.{◌≡◌, sym}
-use mathlib.Core.Bool.{true}
+use Prim.Native.Nat.{◌<◌}
+use mathlib.Core.Path.{sym}
 use native.Mathlib.Omega.{arith}
-use borrow.Author.Rules.{rules}
 use borrow.Author.Tests.{lt-ltb, le-ltb, eq-eqb, ne_eqb}
 use lib.ListN.{length}
-use Rattle.laws.specs.Every.{every, every_at, every_all, every_next, every_not}
-use Rattle.trail_check.specs.Check.{in_row, row_ok}
+use Rattle.laws.specs.Every.{every_at, every_all, every_next, every_not}
+use Rattle.trail_check.specs.Check.{row_ok}
 use Rattle.trail_check.proofs.row_ok.Goals as goal
 use Rattle.trail_check.proofs.row_ok.Goals.{After-index-v}
 

@@ -1,12 +1,8 @@
-use Prim.Native.Nat.{◌-◌, ◌≤◌, ◌<◌}
-use mathlib.Core.Path.{◌≡◌, sym}
+use Prim.Native.Nat.{◌-◌, ◌≤◌}
+use mathlib.Core.Path.{◌≡◌}
 use mathlib.Core.Bool.{true}
-use native.Mathlib.Omega.{arith}
-use borrow.Author.Rules.{rules}
-use borrow.Author.Tests.{lt-ltb, le-ltb, eq-eqb, ne_eqb}
-use lib.ListN.{length}
-use Rattle.laws.specs.Every.{every, every_at, every_all, every_next, every_not}
-use Rattle.trail_check.specs.Check.{in_row, row_ok}
+use Rattle.laws.specs.Every.{every}
+use Rattle.trail_check.specs.Check.{in_row}
 use Rattle.trail_check.proofs.row_ok.Given as goal
 
 abbrev pub invariant-loop-i : goal.invariant-loop-i

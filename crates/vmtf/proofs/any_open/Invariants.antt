@@ -1,12 +1,8 @@
-use borrow.Author.Rules.{rules}
 use Prim.Native.Nat.{ℕ, ◌≤◌, ◌<◌, ◌-◌}
-use mathlib.Core.Path.{◌≡◌, sym, ◌∙◌}
+use mathlib.Core.Path.{◌≡◌}
 use mathlib.Core.Bool.{false}
-use native.Mathlib.Omega.{arith}
-use borrow.Author.Count.{below_more}
 use lib.ListN.{length}
 use Rattle.vmtf.specs.Vmtf.{is_open}
-use Rattle.vmtf.specs.Laws.{any_open_lem, none_open}
 use Rattle.vmtf.proofs.any_open.Given as goal
 
 abbrev pub invariant-loop-i : goal.invariant-loop-i

@@ -1,8 +1,7 @@
 -- `vmtf::check_list` meets its contract: each test that fails decides the definition's.
 use mathlib.Core.Path.{sym, ◌∙◌}
-use borrow.Author.Tests.{eq-eqb, ne_eqb, not-true, not-false}
+use borrow.Author.Tests.{eq-eqb, ne_eqb}
 use Rattle.vmtf.specs.Vmtf.{check_list}
-use borrow.Author.Rules.{rules}
 use Rattle.vmtf.proofs.check_list.Goals as goal
 
 pub returns-then-not-check_row : goal.returns-then-not-check_row

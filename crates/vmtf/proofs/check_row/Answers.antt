@@ -1,13 +1,8 @@
 -- `vmtf::check_row` meets its contract. The loop's invariant: checking on from curr gives the goal.
-use borrow.Author.Tests.{not-true, not-false}
-use Prim.Native.Nat.{◌≤◌, ◌<◌, ◌-◌}
+use Prim.Native.Nat.{◌<◌, ◌-◌}
 use mathlib.Core.Path.{◌≡◌, sym, ◌∙◌}
 use native.Mathlib.Omega.{arith}
-use borrow.Author.Rules.{rules}
 use lib.ListN.{length}
-use Rattle.lit.specs.Numbers.{NONE}
-use Rattle.vmtf.specs.declared.VmtfState.{VmtfState}
-use Rattle.vmtf.specs.Vmtf.{vmtf_of, check_row}
 use Rattle.vmtf.specs.Laws.{stands_in, check_step, check_fails, check_end}
 use Rattle.vmtf.proofs.check_row.Goals as goal
 use Rattle.vmtf.proofs.check_row.Goals.{Else-not-stands}

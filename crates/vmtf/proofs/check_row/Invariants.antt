@@ -1,13 +1,9 @@
-use borrow.Author.Tests.{not-true, not-false}
-use Prim.Native.Nat.{◌≤◌, ◌<◌, ◌-◌}
-use mathlib.Core.Path.{◌≡◌, sym, ◌∙◌}
-use native.Mathlib.Omega.{arith}
-use borrow.Author.Rules.{rules}
+use Prim.Native.Nat.{◌≤◌, ◌-◌}
+use mathlib.Core.Path.{◌≡◌}
 use lib.ListN.{length}
 use Rattle.lit.specs.Numbers.{NONE}
 use Rattle.vmtf.specs.declared.VmtfState.{VmtfState}
 use Rattle.vmtf.specs.Vmtf.{vmtf_of, check_row}
-use Rattle.vmtf.specs.Laws.{stands_in, check_step, check_fails, check_end}
 use Rattle.vmtf.proofs.check_row.Given as goal
 
 abbrev pub invariant-loop-i : goal.invariant-loop-i

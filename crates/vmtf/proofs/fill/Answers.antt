@@ -1,10 +1,9 @@
 -- The loop's invariant: the first i places hold x, the others what they held.
-use Prim.Native.Nat.{◌≤◌, ◌<◌, ◌-◌}
+use Prim.Native.Nat.{◌<◌}
 use mathlib.Core.Path.{◌≡◌, refl, ◌∙◌}
 use native.Mathlib.Omega.{arith}
-use borrow.Author.Rules.{rules}
 use lib.ListN.{length, length-set}
-use Rattle.laws.specs.InPlace.{filled, filled_next, filled_end}
+use Rattle.laws.specs.InPlace.{filled_next, filled_end}
 use Rattle.vmtf.proofs.fill.Goals as goal
 
 pub loop-i-init : goal.loop-i-init

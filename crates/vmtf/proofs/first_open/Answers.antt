@@ -1,9 +1,9 @@
 -- The loop's invariant: the first open variable from curr on is the one from search on. Its measure is the list that remains.
 use Prim.Native.Nat.{◌<◌}
-use mathlib.Core.Path.{◌≡◌, refl, sym, ap, ◌∙◌}
+use mathlib.Core.Path.{refl, sym, ap, ◌∙◌}
 use native.Mathlib.Omega.{arith}
 use lib.ListN.{length}
-use Rattle.vmtf.specs.Vmtf.{first_open, from, Ends}
+use Rattle.vmtf.specs.Vmtf.{first_open}
 use Rattle.vmtf.specs.Laws.{ends_in, ends_step, from_none, from_step}
 use Rattle.vmtf.proofs.first_open.Goals as goal
 use Rattle.vmtf.proofs.first_open.Goals.{Else-is_open}

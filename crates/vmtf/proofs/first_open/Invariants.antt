@@ -1,9 +1,6 @@
-use Prim.Native.Nat.{◌<◌}
-use mathlib.Core.Path.{◌≡◌, refl, sym, ap, ◌∙◌}
-use native.Mathlib.Omega.{arith}
+use mathlib.Core.Path.{◌≡◌}
 use lib.ListN.{length}
 use Rattle.vmtf.specs.Vmtf.{first_open, from, Ends}
-use Rattle.vmtf.specs.Laws.{ends_in, ends_step, from_none, from_step}
 use Rattle.vmtf.proofs.first_open.Given as goal
 
 abbrev pub invariant-loop-curr : goal.invariant-loop-curr

@@ -3,7 +3,6 @@ use mathlib.Core.Path.{sym, ◌∙◌}
 use borrow.Author.Tests.{eq-eqb, ne_eqb}
 use Rattle.vmtf.specs.Laws.{found}
 use Rattle.vmtf.specs.Vmtf.{get_next}
-use borrow.Author.Rules.{rules}
 use Rattle.vmtf.proofs.get_next.Goals as goal
 
 pub returns-then-any_open : goal.returns-then-any_open

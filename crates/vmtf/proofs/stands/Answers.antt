@@ -1,7 +1,6 @@
 -- `vmtf::stands` meets its contract: each test that fails decides the definition's.
 use borrow.Author.Tests.{eq-eqb, ne_eqb, lt-ltb, le-ltb}
 use Rattle.vmtf.specs.Vmtf.{stands}
-use borrow.Author.Rules.{rules}
 use Rattle.vmtf.proofs.stands.Goals as goal
 
 pub returns-then-curr-next : goal.returns-then-curr-next

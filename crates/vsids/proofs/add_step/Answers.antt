@@ -1,7 +1,4 @@
 -- `add_step` meets its contract: the sum is stored, and the test on it decides whether all is scaled.
-use mathlib.Core.Path.{◌∙◌}
-use lib.ListN.{length-set}
-use borrow.Author.Rules.{rules}
 use Rattle.vsids.specs.Vsids.{add_step, scaled_all, rescale}
 use Rattle.vsids.proofs.add_step.Goals as goal
 

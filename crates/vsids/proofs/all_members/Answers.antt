@@ -1,10 +1,9 @@
 -- `all_members` meets its contract. The loop's invariant: the first i members and positions are their own numbers.
-use Prim.Native.Nat.{◌≤◌, ◌<◌, ◌-◌}
+use Prim.Native.Nat.{◌<◌}
 use mathlib.Core.Path.{◌≡◌, refl, ◌∙◌}
 use native.Mathlib.Omega.{arith}
-use borrow.Author.Rules.{rules}
 use lib.ListN.{length, length-set}
-use Rattle.laws.specs.InPlace.{up_to, counted, counted_next, counted_end}
+use Rattle.laws.specs.InPlace.{up_to, counted_next, counted_end}
 use Rattle.vsids.proofs.Loops.{made}
 use Rattle.vsids.proofs.all_members.Goals as goal
 

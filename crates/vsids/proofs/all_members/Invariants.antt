@@ -1,10 +1,7 @@
-use Prim.Native.Nat.{◌≤◌, ◌<◌, ◌-◌}
-use mathlib.Core.Path.{◌≡◌, refl, ◌∙◌}
-use native.Mathlib.Omega.{arith}
-use borrow.Author.Rules.{rules}
-use lib.ListN.{length, length-set}
-use Rattle.laws.specs.InPlace.{up_to, counted, counted_next, counted_end}
-use Rattle.vsids.proofs.Loops.{made}
+use Prim.Native.Nat.{◌≤◌, ◌-◌}
+use mathlib.Core.Path.{◌≡◌}
+use lib.ListN.{length}
+use Rattle.laws.specs.InPlace.{counted}
 use Rattle.vsids.proofs.all_members.Given as goal
 
 abbrev pub invariant-loop-i : goal.invariant-loop-i

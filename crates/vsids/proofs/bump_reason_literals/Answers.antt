@@ -1,12 +1,11 @@
 -- `bump_reason_literals` meets its contract. The loop's invariant: bumping the literals from place i on gives the goal, whatever the switches.
-use Prim.Native.Nat.{ℕ, ◌≤◌, ◌-◌}
-use mathlib.Core.Path.{refl, sym, ap, ◌∙◌}
-use mathlib.Core.List.{List, []}
+use Prim.Native.Nat.{ℕ, ◌≤◌}
+use mathlib.Core.Path.{refl, ap, ◌∙◌}
+use mathlib.Core.List.{[]}
 use native.Mathlib.Omega.{arith}
-use borrow.Author.Rules.{rules}
 use lib.ListN.{length, drop_of_length-le}
-use Rattle.vsids.specs.Vsids.{vsids_of, bump_variable, bump_all, bump_reason_literals}
-use Rattle.vsids.proofs.Loops.{Bumping, bumping}
+use Rattle.vsids.specs.Vsids.{vsids_of, bump_variable, bump_all}
+use Rattle.vsids.proofs.Loops.{bumping}
 use Rattle.vsids.proofs.bump_reason_literals.Goals as goal
 
 pub loop-i-init : goal.loop-i-init

@@ -1,11 +1,8 @@
-use Prim.Native.Nat.{ℕ, ◌≤◌, ◌-◌}
-use mathlib.Core.Path.{refl, sym, ap, ◌∙◌}
-use mathlib.Core.List.{List, []}
-use native.Mathlib.Omega.{arith}
-use borrow.Author.Rules.{rules}
-use lib.ListN.{length, drop_of_length-le}
-use Rattle.vsids.specs.Vsids.{vsids_of, bump_variable, bump_all, bump_reason_literals}
-use Rattle.vsids.proofs.Loops.{Bumping, bumping}
+use Prim.Native.Nat.{ℕ, ◌-◌}
+use mathlib.Core.List.{List}
+use lib.ListN.{length}
+use Rattle.vsids.specs.Vsids.{vsids_of, bump_reason_literals}
+use Rattle.vsids.proofs.Loops.{Bumping}
 use Rattle.vsids.proofs.bump_reason_literals.Given as goal
 
 abbrev pub invariant-loop-i : goal.invariant-loop-i

@@ -1,7 +1,6 @@
 -- `bump_variable` meets its contract: after `add_step` a member moves up, and another variable stays.
 use mathlib.Core.Path.{sym, ap, ◌∙◌}
 use native.Mathlib.Omega.{arith}
-use borrow.Author.Rules.{rules}
 use Rattle.vsids.specs.Vsids.{move_up, bump_variable}
 use Rattle.heap.specs.Walks.{room_fewer}
 use Rattle.vsids.proofs.Loops.{raised, not_raised}

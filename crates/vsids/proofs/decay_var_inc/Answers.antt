@@ -1,5 +1,4 @@
 -- `decay_var_inc` meets its contract: the step is the decayed one, whatever the memory.
-use borrow.Author.Rules.{rules}
 use Rattle.vsids.proofs.decay_var_inc.Goals as goal
 
 pub returns : goal.returns

@@ -1,10 +1,9 @@
 -- `fill_fresh` meets its contract. The loop's invariant: the first i activities are 0, and the first i switches on.
-use Prim.Native.Nat.{◌≤◌, ◌<◌, ◌-◌}
+use Prim.Native.Nat.{◌<◌}
 use mathlib.Core.Path.{◌≡◌, refl, ◌∙◌}
 use native.Mathlib.Omega.{arith}
-use borrow.Author.Rules.{rules}
 use lib.ListN.{length, length-set}
-use Rattle.laws.specs.InPlace.{filled, filled_next, filled_end}
+use Rattle.laws.specs.InPlace.{filled_next, filled_end}
 use Rattle.lit.specs.Numbers.{switched_on}
 use Rattle.activity.specs.Doubles.{zero_activity}
 use Rattle.vsids.proofs.fill_fresh.Goals as goal

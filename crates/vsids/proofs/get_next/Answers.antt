@@ -2,10 +2,9 @@
 use Prim.Native.Nat.{◌<◌}
 use mathlib.Core.Path.{refl, sym, ◌∙◌}
 use native.Mathlib.Omega.{arith}
-use borrow.Author.Rules.{rules}
 use lib.ListN.{length}
-use Rattle.vsids.specs.Vsids.{vsids_of, get_next}
-use Rattle.vsids.proofs.Loops.{Seeking, found, dropped, emptied}
+use Rattle.vsids.specs.Vsids.{get_next}
+use Rattle.vsids.proofs.Loops.{found, dropped, emptied}
 use Rattle.vsids.proofs.get_next.Goals as goal
 use Rattle.vsids.proofs.get_next.Goals.{After-remove_min-v}
 

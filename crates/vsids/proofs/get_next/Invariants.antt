@@ -1,10 +1,6 @@
-use Prim.Native.Nat.{◌<◌}
-use mathlib.Core.Path.{refl, sym, ◌∙◌}
-use native.Mathlib.Omega.{arith}
-use borrow.Author.Rules.{rules}
 use lib.ListN.{length}
 use Rattle.vsids.specs.Vsids.{vsids_of, get_next}
-use Rattle.vsids.proofs.Loops.{Seeking, found, dropped, emptied}
+use Rattle.vsids.proofs.Loops.{Seeking}
 use Rattle.vsids.proofs.get_next.Given as goal
 
 abbrev pub invariant-loop-len : goal.invariant-loop-len

@@ -1,7 +1,5 @@
 -- `insert` meets its contract: a member or a variable that is off changes nothing, and `heap::members::insert` does the rest.
 use mathlib.Core.Path.{sym, ◌∙◌}
-use mathlib.Core.Logic.{⊎_elim}
-use borrow.Author.Rules.{rules}
 use borrow.Author.Tests.{eq-eqb, ne_eqb}
 use Rattle.vsids.proofs.Loops.{inserted, member_stays, off_stays}
 use Rattle.vsids.proofs.insert.Goals as goal

@@ -1,5 +1,4 @@
 -- `is_open` meets its contract: either test's answer decides.
-use borrow.Author.Rules.{rules}
 use borrow.Author.Tests.{eq-eqb, ne_eqb}
 use Rattle.vsids.specs.Vsids.{is_open}
 use Rattle.vsids.proofs.is_open.Goals as goal

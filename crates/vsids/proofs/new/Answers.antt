@@ -1,5 +1,4 @@
 -- `new` meets its contract: members in the order of their numbers, with fresh activities and switches.
-use borrow.Author.Rules.{rules}
 use Rattle.vsids.proofs.new.Goals as goal
 
 pub returns : goal.returns

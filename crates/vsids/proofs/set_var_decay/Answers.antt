@@ -1,5 +1,4 @@
 -- `set_var_decay` meets its contract: the step has the new decay, whatever the memory.
-use borrow.Author.Rules.{rules}
 use Rattle.vsids.proofs.set_var_decay.Goals as goal
 
 pub returns : goal.returns

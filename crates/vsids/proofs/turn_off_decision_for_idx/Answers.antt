@@ -1,6 +1,5 @@
 -- `turn_off_decision_for_idx` meets its contract: one switch is stored, whatever the rest.
 use mathlib.Core.Path.{refl}
-use borrow.Author.Rules.{rules}
 use Rattle.vsids.specs.Vsids.{turn_off}
 use Rattle.vsids.proofs.turn_off_decision_for_idx.Goals as goal
 

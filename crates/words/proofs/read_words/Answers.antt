@@ -1,6 +1,5 @@
 -- `words::read_words` meets its contract: above the bytes there is no letter.
 use mathlib.Core.Path.{sym}
-use borrow.Author.Rules.{rules}
 use Rattle.words.specs.Kinds.{no_letter}
 use Rattle.words.proofs.read_words.Goals as goal
 

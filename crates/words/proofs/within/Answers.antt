@@ -1,6 +1,5 @@
 -- `words::within` meets its contract: the two tests are the rule's.
 use borrow.Author.Tests.{le-leb, lt-leb}
-use borrow.Author.Rules.{rules}
 use Rattle.words.proofs.within.Goals as goal
 
 pub returns-then-count-le-MAX_GROUP : goal.returns-then-count-le-MAX_GROUP

@@ -4,10 +4,9 @@ use mathlib.Core.Path.{◌≡◌, sym, ◌∙◌}
 use native.Mathlib.Omega.{arith}
 use lib.Dec.{eqb}
 use borrow.Author.Tests.{eqb-true, eq-eqb, ne_eqb}
-use borrow.Author.Rules.{rules}
 use Rattle.laws.specs.Tests.{same_test}
 use Rattle.words.specs.Words.{words_fit}
-use Rattle.words.specs.Entered.{thirds}
+use Rattle.words.proofs.Entered.{thirds}
 use Rattle.words.proofs.words_fit.Goals as goal
 
 in-thirds : (a b : ℕ) → a ≡ a / 3 * 3 → eqb b (a / 3 * 2) ≡ words_fit a b

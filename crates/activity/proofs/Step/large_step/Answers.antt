@@ -1,5 +1,4 @@
 -- `large_step` meets its contract: it looks at the decayed step.
-use borrow.Author.Rules.{rules}
 use Rattle.activity.proofs.Step.large_step.Goals as goal
 
 pub returns : goal.returns

@@ -1,5 +1,5 @@
 -- `forms::text::digit` meets its contract: between the digits' bounds the difference, elsewhere 10.
-use Rattle.std.proofs.Common.{sym, ⊎_elim, arith, leb-false, leb-true}
+use Rattle.std.proofs.Common.{sym, arith}
 use Rattle.forms.specs.Reading.{digit_low, digit_other}
 use Rattle.forms.proofs.text.digit.Goals as goal
 

@@ -18,9 +18,6 @@ loop-left-init c = (omega arith, omega arith)
 pub overflow_add-k : goal.overflow_add-k
 overflow_add-k c = omega (arith, c.loop-left.invariant.1, digits_room 20 c.args.v)
 
-pub loop-left-smaller : goal.loop-left-smaller
-loop-left-smaller c = omega arith
-
 pub loop-left-preserved : goal.loop-left-preserved
 loop-left-preserved c = (omega (arith, c.loop-left.invariant.0), omega (arith, c.loop-left.invariant.1, four c.loop-left.left (omega arith) (omega arith)))
 

@@ -1,5 +1,5 @@
-use Rattle.std.proofs.Common.{◌≡◌, ℕ, ◌+◌, ◌/◌, ◌≤◌, length, ap, arith}
-use Rattle.forms.specs.TextLaws.{decimals, decimals_one, decimals_length, decimals_count, digits_room}
+use Rattle.std.proofs.Common.{◌≡◌, ◌+◌, ◌≤◌, length}
+use Rattle.forms.specs.TextLaws.{decimals}
 use Rattle.forms.proofs.text.digit_count.Given as goal
 
 abbrev pub invariant-loop-left : goal.invariant-loop-left

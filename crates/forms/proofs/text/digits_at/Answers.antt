@@ -1,5 +1,5 @@
 -- `forms::text::digits_at` meets its contract: what is left of the digits still decides, and a number that has no room for a digit more is too great with it.
-use Rattle.std.proofs.Common.{◌≡◌, ℕ, ◌+◌, ◌-◌, ◌*◌, ◌/◌, ◌<◌, ◌≤◌, length, get_or, drop, sym, refl, ◌∙◌, ⊎_elim, arith, rules, ltb-false, ltb-true}
+use Rattle.std.proofs.Common.{◌≡◌, ◌+◌, ◌-◌, ◌*◌, ◌/◌, ◌<◌, length, get_or, drop, sym, refl, ◌∙◌, arith}
 use Rattle.forms.specs.Reading.{digit_run}
 use Rattle.forms.proofs.Digits.{Left, begun, more, nothing, leading, too_great, the_number, no_digit, a_digit, no_byte, below_ten, not_zero, is_zero}
 use Rattle.forms.proofs.text.digits_at.Goals as goal

@@ -1,6 +1,5 @@
-use Rattle.std.proofs.Common.{◌≡◌, ℕ, ◌+◌, ◌-◌, ◌*◌, ◌/◌, ◌<◌, ◌≤◌, length, get_or, drop, sym, refl, ◌∙◌, ⊎_elim, arith, rules, ltb-false, ltb-true}
-use Rattle.forms.specs.Reading.{digit_run}
-use Rattle.forms.proofs.Digits.{Left, begun, more, nothing, leading, too_great, the_number, no_digit, a_digit, no_byte, below_ten, not_zero, is_zero}
+use Rattle.std.proofs.Common.{◌-◌, ◌<◌, length}
+use Rattle.forms.proofs.Digits.{Left}
 use Rattle.forms.proofs.text.digits_at.Given as goal
 
 abbrev pub invariant-loop-i : goal.invariant-loop-i

@@ -1,5 +1,5 @@
 -- `forms::text::double` meets its contract: a pattern above an infinity's is a NaN's, and the others are read as they stand.
-use Rattle.std.proofs.Common.{sym, ◌∙◌, rules}
+use Rattle.std.proofs.Common.{sym, ◌∙◌}
 use Rattle.forms.specs.Reading.{no_number, nan_pattern, no_nan}
 use Rattle.forms.proofs.text.double.Goals as goal
 

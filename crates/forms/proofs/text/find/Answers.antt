@@ -1,7 +1,5 @@
 -- `forms::text::find` meets its contract: what is left holds the byte at the same place, counted from here.
-use Rattle.std.proofs.Common.{◌≡◌, ◌+◌, ◌-◌, ◌≤◌, length, drop, arith, rules, eqb-true}
-use borrow.Author.Tests.{eqb-false, not-true, not-false}
-use Rattle.forms.specs.Text.{find}
+use Rattle.std.proofs.Common.{arith}
 use Rattle.forms.specs.Reading.{find_next, find_here, find_none}
 use Rattle.forms.proofs.text.find.Goals as goal
 

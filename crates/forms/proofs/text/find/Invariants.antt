@@ -1,7 +1,5 @@
-use Rattle.std.proofs.Common.{◌≡◌, ◌+◌, ◌-◌, ◌≤◌, length, drop, arith, rules, eqb-true}
-use borrow.Author.Tests.{eqb-false, not-true, not-false}
+use Rattle.std.proofs.Common.{◌≡◌, ◌+◌, ◌-◌, ◌≤◌, length, drop}
 use Rattle.forms.specs.Text.{find}
-use Rattle.forms.specs.Reading.{find_next, find_here, find_none}
 use Rattle.forms.proofs.text.find.Given as goal
 
 abbrev pub invariant-loop-i : goal.invariant-loop-i

@@ -1,5 +1,5 @@
 -- `forms::text::hex_digit` meets its contract: one difference is small at a digit, the other at a letter.
-use Rattle.std.proofs.Common.{◌≡◌, ◌+◌, sym, ◌∙◌, ⊎_elim, arith, rules}
+use Rattle.std.proofs.Common.{◌≡◌, ◌+◌, sym, ◌∙◌, arith}
 use Rattle.forms.specs.Letters.{digit_zero, digit_a}
 use Rattle.forms.specs.Reading.{hex_low, hex_high, hex_none}
 use Rattle.forms.proofs.text.hex_digit.Goals as goal

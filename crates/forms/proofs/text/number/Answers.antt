@@ -1,5 +1,5 @@
 -- `forms::text::number` meets its contract: the digits left still decide, read behind the number that the others gave.
-use Rattle.std.proofs.Common.{◌≡◌, ◌+◌, ◌-◌, ◌*◌, ◌<◌, ◌≤◌, ◌⊎◌, length, get_or, drop, sym, ap, ◌∙◌, inl, inr, ⊎_elim, arith, ltb-false, ltb-true}
+use Rattle.std.proofs.Common.{◌≡◌, ◌+◌, ◌-◌, ◌*◌, ◌<◌, ◌⊎◌, get_or, drop, sym, ap, ◌∙◌, inl, inr, ⊎_elim, arith, ltb-false}
 use Rattle.lit.specs.Numbers.{NONE}
 use Rattle.forms.specs.Letters.{digit_zero, digit_nine}
 use Rattle.forms.specs.Text.{number}
@@ -7,13 +7,10 @@ use Rattle.forms.specs.Reading.{number_from, number_next, number_low, number_hig
 use Rattle.forms.specs.TextRead.{whole_of}
 use Rattle.forms.specs.declared.text.Whole.TheVariants as a-whole
 use Rattle.forms.proofs.text.number.Goals as goal
-use Rattle.forms.proofs.text.number.Goals.{After-shared_slice_known-in-loop-i-1, Else-b-gt57, else-field-eq48-via-else-field-eq48, else-field-eq48-via-then-field-eq48+else-field-gt1, then-b-lt48-via-else-b-lt48+then-b-gt57, then-b-lt48-via-then-b-lt48}
+use Rattle.forms.proofs.text.number.Goals.{In-loop-i, Else-b-gt57, else-field-eq48-via-else-field-eq48, else-field-eq48-via-then-field-eq48+else-field-gt1, then-b-lt48-via-else-b-lt48+then-b-gt57, then-b-lt48-via-then-b-lt48}
 
 pub returns-then-field-eq0 : goal.returns-then-field-eq0
 returns-then-field-eq0 c = sym (ap whole_of (number_empty NONE c.args.field.now c.if-field-eq0.true))
-
-pub bounds-field-0 : goal.bounds-field-0
-bounds-field-0 c = omega arith
 
 pub returns-then-field-gt1 : goal.returns-then-field-gt1
 returns-then-field-gt1 c = sym (ap whole_of (number_zero NONE c.args.field.now c.if-field-eq48.true c.if-field-gt1.true))
@@ -25,30 +22,21 @@ loop-i-init c =
       (omega arith, first (omega arith) (λ e h. elim c.else-field-eq48.branch [ else-field-eq48-via-then-field-eq48+else-field-gt1 w ↦ omega arith | else-field-eq48-via-else-field-eq48 w ↦ w.if-field-eq48.false e ])),
     )
 
-pub bounds-field-i : goal.bounds-field-i
-bounds-field-i c = omega arith
-
 -- a byte that is no digit
-no_digit : (c : After-shared_slice_known-in-loop-i-1) → let l = c.args.field.now in let b = get_or l c.loop-i.i 0 in (b < digit_zero) ⊎ (digit_nine < b) → a-whole.Bad ≡ whole_of (number l)
+no_digit : (c : In-loop-i) → let l = c.args.field.now in let b = get_or l c.loop-i.i 0 in (b < digit_zero) ⊎ (digit_nine < b) → a-whole.Bad ≡ whole_of (number l)
 no_digit c w =
     let at = c.loop-i in
     let l = c.args.field.now in
     sym (ap whole_of (at.invariant.1.1 ∙ ⊎_elim (number_low NONE at.v l at.i (omega arith)) (number_high NONE at.v l at.i (omega arith)) w))
 
 pub returns-then-b-lt48 : goal.returns-then-b-lt48
-returns-then-b-lt48 c = no_digit (goal.at.returns-then-b-lt48 c).After-shared_slice_known-in-loop-i-1 (elim c.then-b-lt48.branch [ then-b-lt48-via-else-b-lt48+then-b-gt57 w ↦ inr w.if-b-gt57.true | then-b-lt48-via-then-b-lt48 w ↦ inl w.if-b-lt48.true ])
-
-pub overflow_mul-v : goal.overflow_mul-v
-overflow_mul-v c = omega arith
+returns-then-b-lt48 c = no_digit (goal.at.returns-then-b-lt48 c).In-loop-i (elim c.then-b-lt48.branch [ then-b-lt48-via-else-b-lt48+then-b-gt57 w ↦ inr w.if-b-gt57.true | then-b-lt48-via-then-b-lt48 w ↦ inl w.if-b-lt48.true ])
 
 pub overflow_cast-v : goal.overflow_cast-v
 overflow_cast-v c = omega (arith, ltb-false)
 
 pub overflow_add-v : goal.overflow_add-v
 overflow_add-v c = omega (arith, ltb-false)
-
-pub overflow_cast-t-18 : goal.overflow_cast-t-18
-overflow_cast-t-18 c = omega arith
 
 -- what is left decides behind the next digit, too
 behind : (c : Else-b-gt57) → let l = c.args.field.now in let at = c.loop-i in number l ≡ number_from NONE (at.v * 10 + (get_or l at.i 0 - digit_zero)) (drop (at.i + 1) l)
@@ -60,17 +48,8 @@ behind c =
 pub returns-then-v : goal.returns-then-v
 returns-then-v c = sym (ap whole_of (behind (goal.at.returns-then-v c).Else-b-gt57 ∙ number_over NONE _ _ c.if-v.true))
 
-pub overflow_add-i : goal.overflow_add-i
-overflow_add-i c = omega arith
-
-pub loop-i-smaller : goal.loop-i-smaller
-loop-i-smaller c = omega arith
-
 pub loop-i-preserved : goal.loop-i-preserved
 loop-i-preserved c = (omega arith, (c.if-v.false, behind (goal.at.loop-i-preserved c).Else-b-gt57))
-
-pub overflow_cast-result : goal.overflow_cast-result
-overflow_cast-result c = omega arith
 
 pub returns : goal.returns
 returns c =

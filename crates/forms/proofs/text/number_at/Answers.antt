@@ -1,12 +1,10 @@
 -- `forms::text::number_at` meets its contract: digits up to a tab or the end are the field, and a field with another byte in it is no number.
-use Rattle.std.proofs.Common.{◌≡◌, ℕ, ◌+◌, get_or, drop, sym, ap, ◌∙◌, ⊎_elim, arith, length-drop, get_or-drop, rules, eqb-true}
+use Rattle.std.proofs.Common.{◌≡◌, ℕ, ◌+◌, get_or, drop, sym, ap, ◌∙◌, arith, length-drop, get_or-drop}
 use mathlib.Core.Option.{some}
-use borrow.Author.Tests.{eqb-false, not-true, not-false}
 use Rattle.forms.specs.Text.{tab, number_up_to}
 use Rattle.forms.specs.Reading.{digit_run, run, field_run, field_other, field_none}
 use Rattle.forms.specs.TextRead.{field_of}
 use Rattle.forms.specs.Told.{field_is, field_bad}
-use Rattle.forms.specs.declared.text.Field.TheVariants as a_field
 use Rattle.forms.proofs.text.number_at.Goals as goal
 use Rattle.forms.proofs.text.number_at.Goals.{In-Is, else-end-bytes-via-else-end-bytes, else-end-bytes-via-then-end-bytes+else-bytes-end-ne-TAB}
 

@@ -1,5 +1,5 @@
 -- `forms::text::occurs` meets its contract: what has been counted, and what the bytes left hold, is the whole.
-use Rattle.std.proofs.Common.{◌≡◌, ℕ, ◌+◌, ◌-◌, ◌≤◌, List, length, take, drop, arith, length-take, rules}
+use Rattle.std.proofs.Common.{◌≡◌, ℕ, ◌+◌, ◌-◌, ◌≤◌, List, length, take, drop, arith, length-take}
 use Rattle.forms.specs.Text.{occurs}
 use Rattle.forms.specs.Reading.{block, occurs_between, occurs_end}
 use Rattle.forms.specs.TextLaws.{occurs_length}

@@ -1,7 +1,5 @@
-use Rattle.std.proofs.Common.{◌≡◌, ℕ, ◌+◌, ◌-◌, ◌≤◌, List, length, take, drop, arith, length-take, rules}
+use Rattle.std.proofs.Common.{◌≡◌, ◌+◌, ◌-◌, ◌≤◌, length, drop}
 use Rattle.forms.specs.Text.{occurs}
-use Rattle.forms.specs.Reading.{block, occurs_between, occurs_end}
-use Rattle.forms.specs.TextLaws.{occurs_length}
 use Rattle.forms.proofs.text.occurs.Given as goal
 
 abbrev pub invariant-loop-i : goal.invariant-loop-i

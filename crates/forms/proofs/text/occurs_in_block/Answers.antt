@@ -1,6 +1,5 @@
 -- `forms::text::occurs_in_block` meets its contract: what has been counted, and what the bytes left hold, is the whole.
-use Rattle.std.proofs.Common.{◌≡◌, ◌+◌, ◌-◌, ◌≤◌, length, drop, ⊎_elim, arith, rules}
-use Rattle.forms.specs.Text.{occurs}
+use Rattle.std.proofs.Common.{arith}
 use Rattle.forms.specs.Reading.{occurs_other, occurs_same, occurs_end}
 use Rattle.forms.proofs.text.occurs_in_block.Goals as goal
 use Rattle.forms.proofs.text.occurs_in_block.Goals.{else-bytes-i, then-bytes-i}

@@ -1,6 +1,5 @@
-use Rattle.std.proofs.Common.{◌≡◌, ◌+◌, ◌-◌, ◌≤◌, length, drop, ⊎_elim, arith, rules}
+use Rattle.std.proofs.Common.{◌≡◌, ◌+◌, ◌-◌, ◌≤◌, length, drop}
 use Rattle.forms.specs.Text.{occurs}
-use Rattle.forms.specs.Reading.{occurs_other, occurs_same, occurs_end}
 use Rattle.forms.proofs.text.occurs_in_block.Given as goal
 
 abbrev pub invariant-loop-i : goal.invariant-loop-i

@@ -1,5 +1,5 @@
 -- `forms::text::pattern` meets its contract: while no byte was bad, the digits left still decide, read behind the bits that the others gave.
-use Rattle.std.proofs.Common.{◌≡◌, ℕ, ◌+◌, ◌-◌, ◌*◌, ◌%◌, ◌^◌, ◌<◌, ◌≤◌, ◌⊎◌, List, length, get_or, drop, sym, ap, ◌∙◌, inl, inr, ⊎_elim, arith, rules}
+use Rattle.std.proofs.Common.{◌≡◌, ℕ, ◌+◌, ◌*◌, ◌%◌, ◌<◌, ◌≤◌, ◌⊎◌, List, length, get_or, drop, sym, ap, ◌∙◌, inl, inr, ⊎_elim, arith}
 use mathlib.Core.Logic.{by_cases}
 use mathlib.Core.Option.{none}
 use native.Mathlib.Decide.{ℕ_discrete, dec_lt}
@@ -48,12 +48,3 @@ pub returns : goal.returns
 returns c =
     let at = c.loop-i in
     sym (ap bits_of (at.invariant.2 c.if-worst-ge16.false ∙ pattern_end at.v c.args.field.now at.i (omega arith)))
-
-pub bounds-field-i : goal.bounds-field-i
-bounds-field-i c = omega arith
-
-pub overflow_add-i : goal.overflow_add-i
-overflow_add-i c = omega arith
-
-pub loop-i-smaller : goal.loop-i-smaller
-loop-i-smaller c = omega arith

@@ -1,10 +1,7 @@
-use Rattle.std.proofs.Common.{◌≡◌, ℕ, ◌+◌, ◌-◌, ◌*◌, ◌%◌, ◌^◌, ◌<◌, ◌≤◌, ◌⊎◌, List, length, get_or, drop, sym, ap, ◌∙◌, inl, inr, ⊎_elim, arith, rules}
-use mathlib.Core.Logic.{by_cases}
+use Rattle.std.proofs.Common.{◌≡◌, ◌-◌, ◌^◌, ◌<◌, ◌≤◌, drop}
 use mathlib.Core.Option.{none}
-use native.Mathlib.Decide.{ℕ_discrete, dec_lt}
 use Rattle.forms.specs.Text.{pattern}
-use Rattle.forms.specs.TextRead.{bits_of}
-use Rattle.forms.specs.Reading.{hex_value, pattern_from, pattern_next, pattern_digit, pattern_bad, pattern_end, pattern_starts, pattern_other, hex_room, room_left}
+use Rattle.forms.specs.Reading.{pattern_from}
 use Rattle.forms.proofs.text.pattern.Given as goal
 
 abbrev pub invariant-loop-i : goal.invariant-loop-i

@@ -1,5 +1,5 @@
 -- `forms::text::put_digit` meets its contract: one byte is written.
-use Rattle.std.proofs.Common.{refl, rules}
+use Rattle.std.proofs.Common.{refl}
 use Rattle.forms.specs.Text.{written}
 use Rattle.forms.proofs.text.put_digit.Goals as goal
 

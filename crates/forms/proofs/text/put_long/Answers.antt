@@ -1,12 +1,8 @@
 -- `forms::text::put_long` meets its contract: the decimals 18 left, written before the place, still give the whole number's.
-use Rattle.std.proofs.Common.{◌≡◌, ◌+◌, ◌-◌, ◌/◌, ◌%◌, ◌≤◌, length, sym, refl, ◌∙◌, arith, length-set}
+use Rattle.std.proofs.Common.{◌≡◌, ◌+◌, ◌-◌, ◌/◌, ◌%◌, length, sym, refl, ◌∙◌, arith, length-set}
 use Rattle.forms.specs.Letters.{digit_zero}
-use Rattle.forms.specs.Text.{written}
 use Rattle.forms.specs.TextLaws.{decimals, decimals_length, decimals_last_first, put_decimal, digits_some}
 use Rattle.forms.proofs.text.put_long.Goals as goal
-
-pub overflow_add-end : goal.overflow_add-end
-overflow_add-end c = omega arith
 
 pub loop-left-init : goal.loop-left-init
 loop-left-init c = ((omega arith, omega arith), (omega arith, (omega arith, refl)))
@@ -14,17 +10,8 @@ loop-left-init c = ((omega arith, omega arith), (omega arith, (omega arith, refl
 pub overflow_sub-i : goal.overflow_sub-i
 overflow_sub-i c = omega (arith, digits_some 19 c.loop-left.left)
 
-pub overflow_cast-out : goal.overflow_cast-out
-overflow_cast-out c = omega arith
-
-pub overflow_add-out : goal.overflow_add-out
-overflow_add-out c = omega arith
-
 pub bounds-out-i : goal.bounds-out-i
 bounds-out-i c = omega (arith, digits_some 19 c.loop-left.left)
-
-pub loop-left-smaller : goal.loop-left-smaller
-loop-left-smaller c = omega arith
 
 pub loop-left-preserved : goal.loop-left-preserved
 loop-left-preserved c =
@@ -34,12 +21,6 @@ loop-left-preserved c =
     let w = sym (decimals_last_first 18 a.at at.left at.out (omega arith) (omega arith)) ∙ at.invariant.1.1.1 in
     ((omega arith, omega arith), (e, (length-set at.out (at.i - 1) (digit_zero + at.left % 10) ∙ at.invariant.1.1.0, rw e w)))
 
-pub overflow_cast-out-2 : goal.overflow_cast-out-2
-overflow_cast-out-2 c = omega arith
-
-pub overflow_add-out-2 : goal.overflow_add-out-2
-overflow_add-out-2 c = omega arith
-
 pub bounds-out-at : goal.bounds-out-at
 bounds-out-at c = omega (arith, digits_some 19 c.args.v)
 
@@ -48,6 +29,3 @@ returns c =
     let a = c.args in
     let at = c.loop-left in
     record { buffer = put_decimal 18 a.at at.left at.out (omega arith) ∙ at.invariant.1.1.1; place = omega arith }
-
-pub digit_count-requires : goal.digit_count-requires
-digit_count-requires c = tt

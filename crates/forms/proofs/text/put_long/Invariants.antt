@@ -1,7 +1,6 @@
-use Rattle.std.proofs.Common.{◌≡◌, ◌+◌, ◌-◌, ◌/◌, ◌%◌, ◌≤◌, length, sym, refl, ◌∙◌, arith, length-set}
-use Rattle.forms.specs.Letters.{digit_zero}
+use Rattle.std.proofs.Common.{◌≡◌, ◌+◌, ◌≤◌, length}
 use Rattle.forms.specs.Text.{written}
-use Rattle.forms.specs.TextLaws.{decimals, decimals_length, decimals_last_first, put_decimal, digits_some}
+use Rattle.forms.specs.TextLaws.{decimals}
 use Rattle.forms.proofs.text.put_long.Given as goal
 
 abbrev pub invariant-loop-left : goal.invariant-loop-left

@@ -1,5 +1,5 @@
 -- `forms::text::put_number` meets its contract: a number of up to three digits is its digits one behind the other.
-use Rattle.std.proofs.Common.{◌≡◌, ℕ, ◌+◌, ◌/◌, ◌%◌, ◌<◌, ◌≤◌, List, [], ◌∷◌, ◌++◌, length, ap, ◌∙◌, arith, rules}
+use Rattle.std.proofs.Common.{◌≡◌, ℕ, ◌+◌, ◌/◌, ◌%◌, ◌<◌, ◌≤◌, List, [], ◌∷◌, ◌++◌, length, ap, ◌∙◌, arith}
 use Rattle.forms.specs.Letters.{digit_zero}
 use Rattle.forms.specs.TextLaws.{decimals, decimals_one, decimals_step}
 use Rattle.forms.specs.Written.{put_more, same_room}

@@ -1,6 +1,5 @@
 -- `forms::text::small_digits_at` meets its contract: what is left of the digits still decides, and a number of 32 bits has room for a digit more.
-use Rattle.std.proofs.Common.{◌≡◌, ◌+◌, ◌-◌, ◌*◌, ◌<◌, ◌≤◌, length, get_or, drop, sym, refl, ◌∙◌, ⊎_elim, arith, rules, ltb-false, ltb-true}
-use Rattle.lit.specs.Numbers.{NONE}
+use Rattle.std.proofs.Common.{◌≡◌, ◌+◌, ◌*◌, ◌<◌, length, get_or, drop, sym, refl, ◌∙◌, arith}
 use Rattle.forms.specs.Reading.{digit_run}
 use Rattle.forms.proofs.Digits.{Left, begun, more, nothing, leading, too_great, the_number, no_digit, a_digit, no_byte, below_ten, not_zero, is_zero}
 use Rattle.forms.proofs.text.small_digits_at.Goals as goal

@@ -1,7 +1,6 @@
-use Rattle.std.proofs.Common.{◌≡◌, ◌+◌, ◌-◌, ◌*◌, ◌<◌, ◌≤◌, length, get_or, drop, sym, refl, ◌∙◌, ⊎_elim, arith, rules, ltb-false, ltb-true}
+use Rattle.std.proofs.Common.{◌-◌, ◌<◌, ◌≤◌, length}
 use Rattle.lit.specs.Numbers.{NONE}
-use Rattle.forms.specs.Reading.{digit_run}
-use Rattle.forms.proofs.Digits.{Left, begun, more, nothing, leading, too_great, the_number, no_digit, a_digit, no_byte, below_ten, not_zero, is_zero}
+use Rattle.forms.proofs.Digits.{Left}
 use Rattle.forms.proofs.text.small_digits_at.Given as goal
 
 abbrev pub invariant-loop-i : goal.invariant-loop-i

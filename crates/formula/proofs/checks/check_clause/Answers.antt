@@ -1,15 +1,13 @@
 -- `check_clause`: the literals before i pass both tests, and the marks tell their variables.
-use Prim.Native.Nat.{◌-◌}
-use mathlib.Core.Path.{◌≡◌, refl}
+use mathlib.Core.Path.{refl}
 use native.Mathlib.Omega.{arith}
-use borrow.Author.Rules.{rules}
 use borrow.Author.Tests.{le-ltb}
-use lib.ListN.{length, length-set}
+use lib.ListN.{length-set}
 use Rattle.laws.specs.Tests.{and_false}
 use Rattle.laws.specs.Every.{passed_all, passed_fails}
 use Rattle.formula.specs.Clauses.{var_below, vars_below}
 use Rattle.formula.specs.Checks.{no_duplicates, check_clause_invariant}
-use Rattle.formula.proofs.checks.Marked.{Marked, marked_none, marked_more, has_mark, lacks_mark, marked}
+use Rattle.formula.proofs.checks.Marked.{marked_none, marked_more, has_mark, lacks_mark, marked}
 use Rattle.formula.proofs.checks.check_clause.Goals as goal
 
 pub loop-i-init : goal.loop-i-init

@@ -1,14 +1,7 @@
 use Prim.Native.Nat.{◌-◌}
-use mathlib.Core.Path.{◌≡◌, refl}
-use native.Mathlib.Omega.{arith}
-use borrow.Author.Rules.{rules}
-use borrow.Author.Tests.{le-ltb}
-use lib.ListN.{length, length-set}
-use Rattle.laws.specs.Tests.{and_false}
-use Rattle.laws.specs.Every.{passed_all, passed_fails}
-use Rattle.formula.specs.Clauses.{var_below, vars_below}
-use Rattle.formula.specs.Checks.{no_duplicates, check_clause_invariant}
-use Rattle.formula.proofs.checks.Marked.{Marked, marked_none, marked_more, has_mark, lacks_mark, marked}
+use mathlib.Core.Path.{◌≡◌}
+use lib.ListN.{length}
+use Rattle.formula.proofs.checks.Marked.{Marked}
 use Rattle.formula.proofs.checks.check_clause.Given as goal
 
 abbrev pub invariant-loop-i : goal.invariant-loop-i

@@ -1,5 +1,4 @@
 -- `check_clause_invariant`: the refusals in order, then the pass over the clause with fresh marks.
-use borrow.Author.Rules.{rules}
 use borrow.Author.Tests.{lt-ltb, le-ltb, eq-eqb, ne_eqb}
 use Rattle.lit.specs.Numbers.{max_vars}
 use Rattle.formula.specs.Checks.{check_clause_invariant_call}

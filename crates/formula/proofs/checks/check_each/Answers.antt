@@ -1,10 +1,9 @@
 -- `check_each`: the clauses from i on give the answer, and no variable has the mark of clause i or a later one.
-use Prim.Native.Nat.{ℕ, ◌+◌, ◌-◌, ◌≤◌, ◌<◌}
+use Prim.Native.Nat.{ℕ, ◌+◌, ◌≤◌, ◌<◌}
 use mathlib.Core.Path.{◌≡◌, refl, sym, ◌∙◌}
 use mathlib.Core.Bool.{not, cond}
 use mathlib.Core.List.{List}
 use native.Mathlib.Omega.{arith}
-use borrow.Author.Rules.{rules}
 use borrow.Author.Tests.{eq-eqb, ne_eqb}
 use lib.ListN.{length, drop, drop_of_length-le}
 use lib.Dec.{eqb}
@@ -13,7 +12,6 @@ use Rattle.formula.specs.declared.checks.SatResult.TheVariants.{Err, Unsat, Unkn
 use Rattle.formula.specs.Clauses.{clause, clauses}
 use Rattle.formula.specs.Reading.{clause_at, length_clauses, drop_clauses}
 use Rattle.formula.specs.Checks.{check_clause_invariant, check_each}
-use Rattle.formula.specs.Marks.{Unmarked}
 use Rattle.formula.proofs.Marks.{fresh_marks}
 use Rattle.formula.proofs.checks.check_each.Invariants.{Rest}
 use Rattle.formula.proofs.checks.check_each.Goals as goal

@@ -1,19 +1,11 @@
-use Prim.Native.Nat.{ℕ, ◌+◌, ◌-◌, ◌≤◌, ◌<◌}
-use mathlib.Core.Path.{◌≡◌, refl, sym, ◌∙◌}
-use mathlib.Core.Bool.{not, cond}
+use Prim.Native.Nat.{ℕ, ◌+◌, ◌-◌, ◌≤◌}
+use mathlib.Core.Path.{◌≡◌}
 use mathlib.Core.List.{List}
-use native.Mathlib.Omega.{arith}
-use borrow.Author.Rules.{rules}
-use borrow.Author.Tests.{eq-eqb, ne_eqb}
-use lib.ListN.{length, drop, drop_of_length-le}
-use lib.Dec.{eqb}
+use lib.ListN.{length, drop}
 use Rattle.lit.specs.Numbers.{max_vars}
-use Rattle.formula.specs.declared.checks.SatResult.TheVariants.{Err, Unsat, Unknown}
-use Rattle.formula.specs.Clauses.{clause, clauses}
-use Rattle.formula.specs.Reading.{clause_at, length_clauses, drop_clauses}
-use Rattle.formula.specs.Checks.{check_clause_invariant, check_each}
+use Rattle.formula.specs.Clauses.{clauses}
+use Rattle.formula.specs.Checks.{check_each}
 use Rattle.formula.specs.Marks.{Unmarked}
-use Rattle.formula.proofs.Marks.{fresh_marks}
 use Rattle.formula.proofs.checks.check_each.Given as goal
 
 -- the answer is that of the clauses from i on

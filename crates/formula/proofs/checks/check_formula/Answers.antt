@@ -1,5 +1,4 @@
 -- `check_formula`: the two tests before the loop.
-use borrow.Author.Rules.{rules}
 use borrow.Author.Tests.{eq-eqb, ne_eqb}
 use Rattle.formula.specs.Reading.{length_clauses}
 use Rattle.formula.specs.Checks.{check_formula_invariant}

@@ -1,12 +1,8 @@
 -- `distinct`: each literal before i has another variable than those before it.
-use Prim.Native.Nat.{◌-◌}
 use mathlib.Core.Path.{sym, ◌∙◌}
 use native.Mathlib.Omega.{arith}
-use borrow.Author.Rules.{rules}
-use borrow.Author.Tests.{not-true, not-false}
-use lib.ListN.{length}
-use Rattle.laws.specs.Every.{Passed, passed_none, passed_more, passed_all, passed_fails}
-use Rattle.formula.specs.Checks.{new_at, no_duplicates}
+use Rattle.laws.specs.Every.{passed_none, passed_more, passed_all, passed_fails}
+use Rattle.formula.specs.Checks.{no_duplicates}
 use Rattle.formula.proofs.checks.distinct.Goals as goal
 
 pub loop-i-init : goal.loop-i-init

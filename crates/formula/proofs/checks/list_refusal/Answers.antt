@@ -1,5 +1,4 @@
 -- `list_refusal`: both lengths, then the list.
-use borrow.Author.Rules.{rules}
 use borrow.Author.Tests.{eq-eqb, ne_eqb}
 use Rattle.formula.specs.Checks.{list_refusal}
 use Rattle.formula.proofs.checks.list_refusal.Goals as goal

@@ -1,10 +1,8 @@
 -- `new_at`: the literals before j have other variables than the one at i.
-use Prim.Native.Nat.{◌-◌}
 use mathlib.Core.Path.{sym}
 use native.Mathlib.Omega.{arith}
-use borrow.Author.Rules.{rules}
 use borrow.Author.Tests.{eq-eqb, ne_eqb}
-use Rattle.laws.specs.Every.{Passed, passed_none, passed_more, passed_all, passed_fails}
+use Rattle.laws.specs.Every.{passed_none, passed_more, passed_all, passed_fails}
 use Rattle.formula.specs.Checks.{differ, new_at}
 use Rattle.formula.proofs.checks.new_at.Goals as goal
 

@@ -1,5 +1,4 @@
 -- `no_duplicates`: the refusals in order, then the pairs of literals.
-use borrow.Author.Rules.{rules}
 use borrow.Author.Tests.{eq-eqb, ne_eqb}
 use Rattle.formula.specs.Checks.{no_duplicates_call}
 use Rattle.formula.proofs.checks.no_duplicates.Goals as goal

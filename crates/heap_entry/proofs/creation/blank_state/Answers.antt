@@ -1,5 +1,4 @@
 -- `heap_entry::creation::blank_state` meets its contract: its step is the fresh one.
-use borrow.Author.Rules.{rules}
 use Rattle.heap_entry.proofs.creation.blank_state.Goals as goal
 
 pub returns : goal.returns

@@ -1,6 +1,5 @@
 -- `heap_entry::creation::fresh` meets its contract: a refusal is the answer; without one the slices have the lengths that creation needs.
-use mathlib.Core.Path.{refl, sym, ap, ◌∙◌}
-use borrow.Author.Rules.{rules}
+use mathlib.Core.Path.{sym, ap, ◌∙◌}
 use Rattle.trail.specs.Trail.{fresh_trail}
 use Rattle.vsids.specs.Vsids.{vsids_of}
 use Rattle.vsids.specs.Vsids as vsids

@@ -8,7 +8,6 @@ use Rattle.session.proofs.OnTrail.{decision_room}
 use Rattle.book.specs.Session.{call}
 use Rattle.choosers.specs.Heap.{next_of}
 use Rattle.session.proofs.Outcomes.{failed, chosen, none_open}
-use borrow.Author.Rules.{rules}
 use Rattle.heap_session.proofs.on_trail.decide.Goals as goal
 
 pub returns-then-p-ge2 : goal.returns-then-p-ge2

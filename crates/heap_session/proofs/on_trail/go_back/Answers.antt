@@ -6,7 +6,6 @@ use Rattle.trail.specs.Trail.{Trail}
 use Rattle.trail.specs.Back.{back_len}
 use Rattle.heap_session.proofs.on_trail.Going.{back_trail}
 use Rattle.heap_session.proofs.on_trail.Outcomes.{gone_back}
-use borrow.Author.Rules.{rules}
 use Rattle.heap_session.proofs.on_trail.go_back.Goals as goal
 
 pub overflow_sub-t : goal.overflow_sub-t

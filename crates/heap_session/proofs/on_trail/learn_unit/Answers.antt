@@ -1,9 +1,8 @@
 -- `heap_session::on_trail::learn_unit` meets its contract: a variable that is not refused has room once level 0 is reached.
-use mathlib.Core.Path.{refl, sym, ◌∙◌}
+use mathlib.Core.Path.{sym, ◌∙◌}
 use mathlib.Core.List.{[]}
 use Rattle.session.proofs.OnTrail.{unit_room, unit_refused, unit_learnt}
 use Rattle.heap_session.proofs.on_trail.Going.{back_trail}
-use borrow.Author.Rules.{rules}
 use Rattle.heap_session.proofs.on_trail.learn_unit.Goals as goal
 
 pub unit_refusal-k-requires : goal.unit_refusal-k-requires

@@ -1,15 +1,12 @@
 -- `heap_session::on_trail::offer_undone` meets its contract. The loop's invariant: offering the variables that are left gives the goal.
 use Prim.Native.Nat.{ℕ, ◌-◌}
-use mathlib.Core.Path.{refl, sym, ap, ◌∙◌}
+use mathlib.Core.Path.{refl, ap, ◌∙◌}
 use native.Mathlib.Omega.{arith}
-use lib.ListN.{length, get_or}
+use lib.ListN.{get_or}
 use Rattle.lit.specs.Lits.{index}
-use Rattle.trail.specs.Undone.{between}
 use Rattle.vsids.specs.Vsids.{vsids_of, insert}
 use Rattle.vsids.proofs.Kept.{good_room, good_free}
-use Rattle.heap_session.specs.Memory.{insert_all}
-use Rattle.heap_session.proofs.on_trail.Going.{Offering, offering, same_step, offered_all}
-use borrow.Author.Rules.{rules}
+use Rattle.heap_session.proofs.on_trail.Going.{offering, same_step, offered_all}
 use Rattle.heap_session.proofs.on_trail.offer_undone.Goals as goal
 
 pub loop-i-init : goal.loop-i-init

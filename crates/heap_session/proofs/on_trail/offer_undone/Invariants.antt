@@ -1,14 +1,8 @@
-use Prim.Native.Nat.{ℕ, ◌-◌}
-use mathlib.Core.Path.{refl, sym, ap, ◌∙◌}
-use native.Mathlib.Omega.{arith}
-use lib.ListN.{length, get_or}
-use Rattle.lit.specs.Lits.{index}
+use lib.ListN.{length}
 use Rattle.trail.specs.Undone.{between}
-use Rattle.vsids.specs.Vsids.{vsids_of, insert}
-use Rattle.vsids.proofs.Kept.{good_room, good_free}
+use Rattle.vsids.specs.Vsids.{vsids_of}
 use Rattle.heap_session.specs.Memory.{insert_all}
-use Rattle.heap_session.proofs.on_trail.Going.{Offering, offering, same_step, offered_all}
-use borrow.Author.Rules.{rules}
+use Rattle.heap_session.proofs.on_trail.Going.{Offering}
 use Rattle.heap_session.proofs.on_trail.offer_undone.Given as goal
 
 abbrev pub invariant-loop-i : goal.invariant-loop-i

@@ -1,5 +1,4 @@
 -- `heap_session::on_trail::went_back` meets its contract: what is undone is offered to the heap, then taken off the trail.
-use borrow.Author.Rules.{rules}
 use Rattle.trail.specs.Laws.{levelled}
 use Rattle.heap_session.specs.Memory.{session_of}
 use Rattle.heap_session.proofs.on_trail.Going.{level_opened, undone_on, stayed, went}

@@ -3,7 +3,6 @@ use Rattle.vsids.proofs.Kept.{good_room, good_placed}
 use borrow.Author.Tests.{lt-ltb, le-ltb}
 use Rattle.book.specs.Session.{call, tuned}
 use Rattle.session.proofs.Outcomes.{failed, passed, rechosen}
-use borrow.Author.Rules.{rules}
 use Rattle.heap_session.proofs.order.bump.Goals as goal
 
 pub returns-then-v-n : goal.returns-then-v-n

@@ -7,7 +7,6 @@ use Rattle.book.specs.Session.{call}
 use Rattle.session.proofs.Outcomes.{failed}
 use Rattle.heap_session.proofs.Outcomes.{without_reason, reason_bumped}
 use mathlib.Core.Path.{refl}
-use borrow.Author.Rules.{rules}
 use Rattle.heap_session.proofs.order.bump_reason.Goals as goal
 
 pub returns-then-v-n : goal.returns-then-v-n

@@ -1,7 +1,6 @@
 -- `heap_session::order::decay` meets its contract: by its test.
 use mathlib.Core.Path.{sym, ◌∙◌}
 use Rattle.heap_session.proofs.Outcomes.{step_large, decayed}
-use borrow.Author.Rules.{rules}
 use Rattle.heap_session.proofs.order.decay.Goals as goal
 
 pub returns-then-large_step : goal.returns-then-large_step

@@ -1,9 +1,7 @@
 -- `heap_session::order::group` meets its contract: by its test.
 use mathlib.Core.Path.{refl, sym, ◌∙◌}
-use borrow.Author.Tests.{not-true, not-false}
 use Rattle.book.specs.Session.{call, tuned}
 use Rattle.session.proofs.Outcomes.{failed, passed, finished}
-use borrow.Author.Rules.{rules}
 use Rattle.heap_session.proofs.order.group.Goals as goal
 
 pub returns-then-not-vars_below : goal.returns-then-not-vars_below

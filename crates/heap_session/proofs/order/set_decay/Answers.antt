@@ -1,9 +1,7 @@
 -- `heap_session::order::set_decay` meets its contract: by its test.
 use mathlib.Core.Path.{sym, ◌∙◌}
-use borrow.Author.Tests.{not-true, not-false}
 use Rattle.book.specs.Session.{call, tuned}
 use Rattle.session.proofs.Outcomes.{failed, passed, rechosen}
-use borrow.Author.Rules.{rules}
 use Rattle.heap_session.proofs.order.set_decay.Goals as goal
 
 pub returns-then-not-good_decay : goal.returns-then-not-good_decay

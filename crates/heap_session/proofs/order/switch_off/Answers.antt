@@ -2,7 +2,6 @@
 use borrow.Author.Tests.{lt-ltb, le-ltb}
 use Rattle.book.specs.Session.{call}
 use Rattle.session.proofs.Outcomes.{failed, passed, rechosen}
-use borrow.Author.Rules.{rules}
 use Rattle.heap_session.proofs.order.switch_off.Goals as goal
 
 pub returns-then-v-n : goal.returns-then-v-n

@@ -1,7 +1,6 @@
 -- `heap_session::step::check_state` meets its contract: by its first test.
 use mathlib.Core.Path.{sym, ◌∙◌}
 use native.Mathlib.Omega.{arith}
-use borrow.Author.Tests.{not-true, not-false}
 use Rattle.heap_session.specs.Check.{state_ok}
 use Rattle.heap_session.proofs.step.check_state.Goals as goal
 

@@ -1,8 +1,6 @@
 -- `heap_session::step::step` meets its contract: each arm by the contract of its call.
-use mathlib.Core.Path.{refl}
 use Rattle.session.proofs.OnTrail.{enqueue_with}
 use Rattle.heap_session.specs.Good.{steady}
-use borrow.Author.Rules.{rules}
 use Rattle.heap_session.proofs.step.step.Goals as goal
 
 pub bump-requires : goal.bump-requires

@@ -1,7 +1,6 @@
 -- `list_entry::creation::fresh` meets its contract: a refusal is the answer; without one the slices have the lengths that creation needs.
-use mathlib.Core.Path.{refl, sym, ap, ◌∙◌}
+use mathlib.Core.Path.{sym, ap, ◌∙◌}
 use native.Mathlib.Omega.{arith}
-use borrow.Author.Rules.{rules}
 use borrow.Author.Tests.{ne_eqb}
 use Rattle.trail.specs.Trail.{fresh_trail}
 use lib.ListN.{replicate}
@@ -13,7 +12,7 @@ use Rattle.session.specs.Sizes.{both, sizes_right}
 use Rattle.list_session.specs.Memory.{session_of}
 use Rattle.list_entry.specs.Entry.{blank}
 use Rattle.list_entry.specs.Checked.{list_sized}
-use Rattle.session.specs.Checks.{size_refused, size_passed, size_accepted, opened}
+use Rattle.session.proofs.Checks.{size_refused, size_passed, size_accepted, opened}
 use Rattle.session.specs.Mode.{made}
 use Rattle.list_entry.proofs.creation.fresh.Goals as goal
 

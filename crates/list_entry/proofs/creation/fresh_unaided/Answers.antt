@@ -1,14 +1,13 @@
 -- `list_entry::creation::fresh_unaided` meets its contract: as `fresh`, and what the scratch holds is written over.
-use mathlib.Core.Path.{refl, sym, ap, ◌∙◌}
+use mathlib.Core.Path.{sym, ap, ◌∙◌}
 use native.Mathlib.Omega.{arith}
-use borrow.Author.Rules.{rules}
 use Rattle.formula.specs.Good.{clauses_facts}
 use Rattle.trail.specs.Trail.{fresh_trail}
 use Rattle.vmtf.specs.Vmtf.{vmtf_of}
 use Rattle.vmtf.specs.Vmtf as vmtf
 use Rattle.choosers.specs.List.{list_ops}
 use Rattle.session.specs.Sizes.{sizes_right}
-use Rattle.session.specs.Checks.{size_refused, size_passed, size_accepted, opened}
+use Rattle.session.proofs.Checks.{size_refused, size_passed, size_accepted, opened}
 use Rattle.session.specs.Mode.{made}
 use Rattle.list_session.specs.Memory.{session_of}
 use Rattle.list_entry.specs.Entry.{blank}

@@ -1,6 +1,5 @@
 -- `list_session::step::check_state` meets its contract: one check after the other.
 use mathlib.Core.Path.{sym, ◌∙◌}
-use borrow.Author.Tests.{not-true, not-false}
 use Rattle.list_session.specs.Check.{state_ok}
 use Rattle.list_session.proofs.step.check_state.Goals as goal
 

@@ -4,7 +4,6 @@ use Rattle.book.specs.Session.{call, tuned}
 use Rattle.session.proofs.Outcomes.{tested, finished}
 use Rattle.session.proofs.OnTrail.{enqueue_with, unit_with, back_with}
 use Rattle.list_session.specs.Kept.{went}
-use borrow.Author.Rules.{rules}
 use Rattle.list_session.proofs.step.step.Goals as goal
 
 pub decide-requires : goal.decide-requires

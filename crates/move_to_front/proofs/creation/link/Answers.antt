@@ -1,13 +1,8 @@
 -- The loop's invariant: linking on from place i gives the goal.
-use Prim.Native.Nat.{ℕ, ◌≤◌, ◌<◌, ◌-◌}
-use mathlib.Core.Path.{◌≡◌, refl, sym, ◌∙◌}
-use mathlib.Core.List.{List}
+use Prim.Native.Nat.{◌≤◌, ◌<◌}
+use mathlib.Core.Path.{refl, sym, ◌∙◌}
 use native.Mathlib.Omega.{arith}
-use borrow.Author.Rules.{rules}
-use lib.ListN.{length, get_or, drop, length-set}
-use Rattle.lit.specs.Numbers.{NONE}
-use Rattle.vmtf.specs.declared.VmtfState.{VmtfState}
-use Rattle.vmtf.specs.Vmtf.{Vmtf, vmtf_of, link_from}
+use lib.ListN.{length, get_or, length-set}
 use Rattle.vmtf.specs.Laws.{link_step, link_end}
 use Rattle.move_to_front.proofs.creation.link.Goals as goal
 use Rattle.move_to_front.proofs.creation.link.Goals.{After-var_at}

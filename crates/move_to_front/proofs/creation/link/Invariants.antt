@@ -1,13 +1,10 @@
-use Prim.Native.Nat.{ℕ, ◌≤◌, ◌<◌, ◌-◌}
-use mathlib.Core.Path.{◌≡◌, refl, sym, ◌∙◌}
+use Prim.Native.Nat.{ℕ, ◌≤◌, ◌-◌}
+use mathlib.Core.Path.{◌≡◌}
 use mathlib.Core.List.{List}
-use native.Mathlib.Omega.{arith}
-use borrow.Author.Rules.{rules}
-use lib.ListN.{length, get_or, drop, length-set}
+use lib.ListN.{length, drop}
 use Rattle.lit.specs.Numbers.{NONE}
 use Rattle.vmtf.specs.declared.VmtfState.{VmtfState}
 use Rattle.vmtf.specs.Vmtf.{Vmtf, vmtf_of, link_from}
-use Rattle.vmtf.specs.Laws.{link_step, link_end}
 use Rattle.move_to_front.proofs.creation.link.Given as goal
 
 pub record Linking (order : List ℕ) (n : ℕ) (goal : VmtfState → Vmtf) (before i : ℕ) (next prev ts : List ℕ) : Type 0 where

@@ -3,7 +3,6 @@ use mathlib.Core.Path.{sym, ap, ◌∙◌}
 use lib.ListN.{length, replicate}
 use Rattle.lit.specs.Numbers.{NONE}
 use Rattle.vmtf.specs.Laws.{make_from}
-use borrow.Author.Rules.{rules}
 use Rattle.move_to_front.proofs.creation.make_linked_list.Goals as goal
 
 pub link-requires : goal.link-requires

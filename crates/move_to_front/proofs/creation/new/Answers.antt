@@ -2,10 +2,9 @@
 use Prim.Native.Nat.{ℕ}
 use mathlib.Core.Path.{◌≡◌, sym, ap, ◌∙◌}
 use mathlib.Core.List.{List}
-use lib.ListN.{length, replicate}
+use lib.ListN.{replicate}
 use Rattle.vmtf.specs.Vmtf.{lit_order, make_linked_list, new}
 use Rattle.vmtf.specs.Laws.{lit_ordering}
-use borrow.Author.Rules.{rules}
 use Rattle.move_to_front.proofs.creation.new.Goals as goal
 
 pub lit_order-requires : goal.lit_order-requires

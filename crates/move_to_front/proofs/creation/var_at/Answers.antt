@@ -3,7 +3,6 @@ use Rattle.lit.specs.Numbers.{NONE}
 use mathlib.Core.Path.{sym}
 use lib.ListN.{get_or-eq_default}
 use Rattle.vmtf.specs.Laws.{get_d_any}
-use borrow.Author.Rules.{rules}
 use Rattle.move_to_front.proofs.creation.var_at.Goals as goal
 
 pub returns-then-i-order : goal.returns-then-i-order

@@ -1,6 +1,5 @@
 -- `move_to_front::order::group_order` meets its contract: the group's variables sorted by their stamps are `by_stamp`.
 use Rattle.vmtf.specs.Sort.{sorted_is}
-use borrow.Author.Rules.{rules}
 use Rattle.move_to_front.proofs.order.group_order.Goals as goal
 
 pub returns : goal.returns

@@ -1,12 +1,10 @@
 -- The loop's invariant: the first i places hold the stamps and the variables of the group, the others what they held.
-use Prim.Native.Nat.{ℕ, ◌≤◌, ◌<◌, ◌-◌}
+use Prim.Native.Nat.{◌≤◌, ◌<◌}
 use mathlib.Core.Path.{◌≡◌, refl, sym, ◌∙◌}
-use mathlib.Core.List.{List}
 use native.Mathlib.Omega.{arith}
-use borrow.Author.Rules.{rules}
 use lib.ListN.{length, length-set, length-map}
 use Rattle.vmtf.specs.Vmtf.{stamps_of}
-use Rattle.vmtf.specs.Laws.{copied, copied_next, copied_end, stamp_at}
+use Rattle.vmtf.specs.Laws.{copied_next, copied_end, stamp_at}
 use Rattle.move_to_front.proofs.order.read_stamps.Goals as goal
 
 pub loop-i-init : goal.loop-i-init

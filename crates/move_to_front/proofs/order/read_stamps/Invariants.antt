@@ -1,11 +1,9 @@
-use Prim.Native.Nat.{ℕ, ◌≤◌, ◌<◌, ◌-◌}
-use mathlib.Core.Path.{◌≡◌, refl, sym, ◌∙◌}
+use Prim.Native.Nat.{ℕ, ◌≤◌, ◌-◌}
+use mathlib.Core.Path.{◌≡◌}
 use mathlib.Core.List.{List}
-use native.Mathlib.Omega.{arith}
-use borrow.Author.Rules.{rules}
-use lib.ListN.{length, length-set, length-map}
+use lib.ListN.{length}
 use Rattle.vmtf.specs.Vmtf.{stamps_of}
-use Rattle.vmtf.specs.Laws.{copied, copied_next, copied_end, stamp_at}
+use Rattle.vmtf.specs.Laws.{copied}
 use Rattle.move_to_front.proofs.order.read_stamps.Given as goal
 
 pub record Reading (group vars stamps₀ order₀ : List ℕ) (i : ℕ) (stamps order : List ℕ) : Type 0 where

@@ -1,5 +1,5 @@
 -- A turn of `gather` puts one more field at its place in each flat slice.
-use Rattle.std.proofs.Common.{ℕ, ◌+◌, ◌<◌, ◌≡◌, ap, List, map, length, get_or, set, take, arith, add-one, length-set}
+use Rattle.std.proofs.Common.{ℕ, ◌+◌, ◌<◌, ◌≡◌, List, map, length, get_or, set, take, arith, add-one, length-set}
 use Rattle.std.proofs.Math.Seq.{take-suc, take-suc-set}
 use Rattle.std.proofs.lemmas.List.{get_or-map, length-map}
 use Rattle.node_entry.specs.declared.nodes.Node.{Node}

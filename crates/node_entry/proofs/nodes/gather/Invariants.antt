@@ -9,7 +9,7 @@ invariant-loop-i l =
       in_range : l.i ≤ length l.next;
       next_so_far : take l.i l.next ≡ take l.i (nexts l.nodes);
       prev_so_far : take l.i l.prev ≡ take l.i (prevs l.nodes);
-      ts_so_far : take l.i l.ts ≡ take l.i (tss l.nodes)
+      ts_so_far : take l.i l.ts ≡ take l.i (tss l.nodes);
     }
 
 abbrev pub decreases-loop-i : goal.decreases-loop-i

@@ -9,7 +9,7 @@ invariant-loop-i l =
       in_range : l.i ≤ length l.next;
       next_so_far : nexts l.nodes ≡ take l.i l.next ++ drop l.i (nexts l.initial.nodes);
       prev_so_far : prevs l.nodes ≡ take l.i l.prev ++ drop l.i (prevs l.initial.nodes);
-      ts_so_far : tss l.nodes ≡ take l.i l.ts ++ drop l.i (tss l.initial.nodes)
+      ts_so_far : tss l.nodes ≡ take l.i l.ts ++ drop l.i (tss l.initial.nodes);
     }
 
 abbrev pub decreases-loop-i : goal.decreases-loop-i

@@ -1,7 +1,6 @@
 -- `saved_text::cursor::bits_at` meets its contract: sixteen bytes are the pattern, or no field stands there.
 use mathlib.Core.Path.{sym, ◌∙◌}
 use mathlib.Core.Option.{none, some}
-use borrow.Author.Rules.{rules}
 use Rattle.forms.specs.Told.{bits_are, bits_bad}
 use Rattle.saved_text.specs.CursorLaws.{bits_field, bits_short}
 use Rattle.saved_text.proofs.cursor.bits_at.Goals as goal

@@ -1,6 +1,5 @@
 -- `saved_text::cursor::keep_long` meets its contract: a place that out does not have changes nothing.
 use mathlib.Core.Path.{sym}
-use borrow.Author.Rules.{rules}
 use lib.Seq.{set_out}
 use Rattle.saved_text.proofs.cursor.keep_long.Goals as goal
 

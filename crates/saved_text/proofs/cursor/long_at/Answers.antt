@@ -1,6 +1,5 @@
 -- `saved_text::cursor::long_at` meets its contract: each kind has its reader.
 use native.Mathlib.Omega.{arith}
-use borrow.Author.Rules.{rules}
 use Rattle.saved_text.specs.CursorLaws.{digits_field}
 use Rattle.saved_text.proofs.cursor.long_at.Goals as goal
 

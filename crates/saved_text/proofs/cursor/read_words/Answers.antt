@@ -1,14 +1,8 @@
 -- `saved_text::cursor::read_words` meets its contract: each turn reads a tab and a field, and a line that stands there goes on behind what was read.
-use Prim.Native.Nat.{◌-◌}
 use mathlib.Core.Path.{◌≡◌, refl, ◌∙◌}
-use mathlib.Core.Logic.{⊎_elim}
 use native.Mathlib.Omega.{arith}
-use borrow.Author.Rules.{rules}
-use borrow.Author.Tests.{eqb-true, eqb-false, not-true, not-false}
-use lib.ListN.{length}
 use Rattle.saved_text.specs.Greatest.{higher, higher_new, higher_old}
-use Rattle.saved_text.specs.Cursor.{word_kind}
-use Rattle.saved_text.specs.CursorLaws.{SoFar, row_other, so_far_none, row_stuck, row_ends, row_unread, so_far_next}
+use Rattle.saved_text.specs.CursorLaws.{row_other, so_far_none, row_stuck, row_ends, row_unread, so_far_next}
 use Rattle.saved_text.proofs.cursor.read_words.Goals as goal
 use Rattle.saved_text.proofs.cursor.read_words.Goals.{else-loop-i-test, else-v-greatest, then-at-text-via-else-at-text+then-text-at, then-at-text-via-then-at-text, then-i-text-via-else-i-text+then-text-i-ne-NEWLINE, then-i-text-via-then-i-text, then-loop-i-test+else-text-i-eq-TAB, then-v-greatest}
 

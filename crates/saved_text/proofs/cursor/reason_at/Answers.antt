@@ -1,9 +1,6 @@
 -- `saved_text::cursor::reason_at` meets its contract: no digits begin with the dash.
 use Prim.Native.Nat.{◌-◌}
-use mathlib.Core.Logic.{⊎_elim}
 use native.Mathlib.Omega.{arith}
-use borrow.Author.Tests.{eqb-true, eqb-false}
-use borrow.Author.Rules.{rules}
 use Rattle.lit.specs.Numbers.{NONE}
 use Rattle.saved_text.specs.CursorLaws.{digits_field, dash_field, reason_field}
 use Rattle.saved_text.proofs.cursor.reason_at.Goals as goal

@@ -1,6 +1,5 @@
 -- `saved_text::cursor::word_at` meets its contract: each kind has its reader.
 use native.Mathlib.Omega.{arith}
-use borrow.Author.Rules.{rules}
 use Rattle.saved_text.specs.CursorLaws.{digits_field, read_small}
 use Rattle.saved_text.proofs.cursor.word_at.Goals as goal
 

@@ -1,12 +1,10 @@
 -- `saved_text::form::clause_section` meets its contract: each turn reads a clause into what is left of the codes, and clauses that stand there go on behind it.
-use Prim.Native.Nat.{ℕ, ◌-◌, ◌≤◌}
+use Prim.Native.Nat.{ℕ, ◌≤◌}
 use Rattle.saved_text.specs.CursorLaws.{row_long}
-use Rattle.saved_text.specs.FormLaws.{Clausing, no_clauses, section_bad, section_next, section_ends, put_back, least_within, least_is}
-use borrow.Author.Rules.{rules}
-use borrow.Author.Tests.{eqb-true, eqb-false}
+use Rattle.saved_text.specs.FormLaws.{no_clauses, section_bad, section_next, section_ends, put_back, least_within, least_is}
 use lib.ListN.{length, take}
 use mathlib.Core.List.{◌++◌}
-use mathlib.Core.Path.{◌≡◌, refl, ap, ◌∙◌}
+use mathlib.Core.Path.{refl, ap, ◌∙◌}
 use native.Mathlib.Omega.{arith}
 use Rattle.saved_text.proofs.form.clause_section.Goals as goal
 use Rattle.saved_text.proofs.form.clause_section.Goals.{After-least-start}

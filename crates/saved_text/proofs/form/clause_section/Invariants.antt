@@ -1,12 +1,7 @@
-use Prim.Native.Nat.{ℕ, ◌-◌, ◌≤◌}
-use Rattle.saved_text.specs.CursorLaws.{row_long}
-use Rattle.saved_text.specs.FormLaws.{Clausing, no_clauses, section_bad, section_next, section_ends, put_back, least_within, least_is}
-use borrow.Author.Rules.{rules}
-use borrow.Author.Tests.{eqb-true, eqb-false}
-use lib.ListN.{length, take}
-use mathlib.Core.List.{◌++◌}
-use mathlib.Core.Path.{◌≡◌, refl, ap, ◌∙◌}
-use native.Mathlib.Omega.{arith}
+use Prim.Native.Nat.{◌-◌}
+use Rattle.saved_text.specs.FormLaws.{Clausing}
+use lib.ListN.{length}
+use mathlib.Core.Path.{◌≡◌}
 use Rattle.saved_text.proofs.form.clause_section.Given as goal
 
 abbrev pub invariant-loop-at : goal.invariant-loop-at

@@ -1,6 +1,5 @@
 -- `saved_text::form::heap_rows` meets its contract: the line of the members, and those behind it.
 use Rattle.saved_text.specs.FormLaws.{head_bad, head_stopped, head_read, two}
-use borrow.Author.Rules.{rules}
 use mathlib.Core.Path.{refl}
 use Rattle.saved_text.proofs.form.heap_rows.Goals as goal
 

@@ -1,6 +1,5 @@
 -- `saved_text::form::heap_text` meets its contract: the clauses, the trail's lines and the heap's, and then the text ends.
 use Rattle.saved_text.specs.FormLaws.{behind_none, behind_bad, behind_more, behind_is, state_bad, state_past, head_past, opens_within, opens_whole, nothing_read, something_read, told}
-use borrow.Author.Rules.{rules}
 use mathlib.Core.Path.{refl}
 use Rattle.saved_text.proofs.form.heap_text.Goals as goal
 

@@ -1,6 +1,5 @@
 -- `saved_text::form::list_rows` meets its contract: the line of the order, and those behind it.
 use Rattle.saved_text.specs.FormLaws.{head_bad, head_miscounted, head_stopped, head_read, alone}
-use borrow.Author.Rules.{rules}
 use mathlib.Core.Path.{sym}
 use Rattle.saved_text.proofs.form.list_rows.Goals as goal
 

@@ -4,7 +4,6 @@ use Rattle.forms.specs.Text.{newline}
 use Rattle.forms.specs.TextLaws.{find_length}
 use Rattle.forms.specs.Words.{never}
 use Rattle.saved_text.specs.FormLaws.{opened_by, first_told, opening_bad}
-use borrow.Author.Rules.{rules}
 use lib.ListN.{length}
 use lib.Seq.{length-take-le}
 use mathlib.Core.Path.{refl, sym, ap, ◌∙◌}

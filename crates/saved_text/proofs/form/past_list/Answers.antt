@@ -1,6 +1,5 @@
 -- `saved_text::form::past_list` meets its contract: row behind row.
 use Rattle.saved_text.specs.FormLaws.{past_then, past_bad}
-use borrow.Author.Rules.{rules}
 use mathlib.Core.Path.{refl}
 use Rattle.saved_text.proofs.form.past_list.Goals as goal
 

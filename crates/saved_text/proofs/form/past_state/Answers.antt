@@ -1,6 +1,5 @@
 -- `saved_text::form::past_state` meets its contract: the trail's lines, and then the chooser's.
 use Rattle.saved_text.specs.FormLaws.{state_bad, state_past, head_past}
-use borrow.Author.Rules.{rules}
 use mathlib.Core.Path.{refl}
 use Rattle.saved_text.proofs.form.past_state.Goals as goal
 

@@ -1,6 +1,5 @@
 -- `saved_text::form::past_words` meets its contract: a line that was read, with so many numbers, is the row.
 use Rattle.saved_text.specs.FormLaws.{row_bad, row_miscounted, row_past}
-use borrow.Author.Rules.{rules}
 use Rattle.saved_text.proofs.form.past_words.Goals as goal
 
 pub returns-in_default : goal.returns-in_default

@@ -1,5 +1,4 @@
 -- `saved_text::form::put_end` meets its contract: by its test.
-use borrow.Author.Rules.{rules}
 use borrow.Author.Tests.{le-leb, lt-leb}
 use Rattle.saved_text.proofs.form.put_end.Goals as goal
 

@@ -1,7 +1,6 @@
 -- `saved_text::form::read_form` meets its contract: the first line, and what stands behind it.
 use Rattle.saved_text.specs.Form.{formed_of}
 use Rattle.saved_text.specs.FormLaws.{opens_within, form_read}
-use borrow.Author.Rules.{rules}
 use mathlib.Core.Path.{sym, ap}
 use Rattle.saved_text.proofs.form.read_form.Goals as goal
 

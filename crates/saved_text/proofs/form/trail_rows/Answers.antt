@@ -1,6 +1,5 @@
 -- `saved_text::form::trail_rows` meets its contract: the line of the codes says how many levels and reasons there are.
 use Rattle.saved_text.specs.FormLaws.{head_bad, head_stopped, head_read, alone}
-use borrow.Author.Rules.{rules}
 use mathlib.Core.Path.{refl}
 use Rattle.saved_text.proofs.form.trail_rows.Goals as goal
 

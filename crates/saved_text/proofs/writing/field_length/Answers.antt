@@ -1,7 +1,6 @@
 -- `saved_text::writing::field_length` meets its contract, kind by kind.
 use mathlib.Core.Path.{sym}
 use Rattle.saved_text.specs.Length.{bits_length}
-use borrow.Author.Rules.{rules}
 use Rattle.saved_text.proofs.writing.field_length.Goals as goal
 
 pub reason_length-requires : goal.reason_length-requires

@@ -1,5 +1,4 @@
 -- `saved_text::writing::hex_byte` meets its contract, digit by digit.
-use Prim.Native.Nat.{◌≤◌}
 use mathlib.Core.Path.{◌≡◌}
 use native.Mathlib.Omega.{arith}
 use Rattle.saved_text.proofs.writing.hex_byte.Goals as goal

@@ -1,10 +1,8 @@
 -- `saved_text::writing::put_bits` meets its contract: the digits left, written before the place, still give the whole pattern's.
-use Prim.Native.Nat.{◌≤◌, ◌+◌, ◌-◌, suc}
+use Prim.Native.Nat.{◌+◌, ◌-◌, suc}
 use mathlib.Core.Path.{◌≡◌, ◌∙◌, refl, sym}
 use native.Mathlib.Omega.{arith}
-use lib.ListN.{length, length-set}
-use Rattle.forms.specs.Text.{written}
-use Rattle.forms.specs.Spelling.{hex}
+use lib.ListN.{length-set}
 use Rattle.saved_text.specs.Length.{bits_length}
 use Rattle.saved_text.specs.Written.{bits_last, bits_none}
 use Rattle.saved_text.proofs.writing.put_bits.Goals as goal
@@ -12,23 +10,11 @@ use Rattle.saved_text.proofs.writing.put_bits.Goals as goal
 pub loop-i-init : goal.loop-i-init
 loop-i-init c = (omega arith, (refl, refl))
 
-pub overflow_sub-i : goal.overflow_sub-i
-overflow_sub-i c = omega arith
-
-pub overflow_cast-left : goal.overflow_cast-left
-overflow_cast-left c = omega arith
-
-pub hex_byte-requires : goal.hex_byte-requires
-hex_byte-requires c = omega arith
-
 pub overflow_add-out : goal.overflow_add-out
 overflow_add-out c = omega (arith, c.requires, c.well_formed)
 
 pub bounds-out-at : goal.bounds-out-at
 bounds-out-at c = omega (arith, c.requires, c.loop-i.invariant.1.0)
-
-pub loop-i-smaller : goal.loop-i-smaller
-loop-i-smaller c = omega arith
 
 pub loop-i-preserved : goal.loop-i-preserved
 loop-i-preserved c =

@@ -1,11 +1,8 @@
-use Prim.Native.Nat.{◌≤◌, ◌+◌, ◌-◌, suc}
-use mathlib.Core.Path.{◌≡◌, ◌∙◌, refl, sym}
-use native.Mathlib.Omega.{arith}
-use lib.ListN.{length, length-set}
+use Prim.Native.Nat.{◌≤◌}
+use mathlib.Core.Path.{◌≡◌}
+use lib.ListN.{length}
 use Rattle.forms.specs.Text.{written}
 use Rattle.forms.specs.Spelling.{hex}
-use Rattle.saved_text.specs.Length.{bits_length}
-use Rattle.saved_text.specs.Written.{bits_last, bits_none}
 use Rattle.saved_text.proofs.writing.put_bits.Given as goal
 
 abbrev pub invariant-loop-i : goal.invariant-loop-i

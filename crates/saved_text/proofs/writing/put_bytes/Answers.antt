@@ -1,32 +1,23 @@
 -- `saved_text::writing::put_bytes` meets its contract: what was written is the bytes passed.
-use Prim.Native.Nat.{◌+◌, ◌-◌, ◌≤◌}
+use Prim.Native.Nat.{◌+◌}
 use mathlib.Core.Path.{◌≡◌, refl}
 use native.Mathlib.Omega.{arith}
 use native.Mathlib.Numerals.{add-one}
-use lib.ListN.{length, take, get_or}
+use lib.ListN.{get_or}
 use lib.Seq.{take_all, take-suc}
 use Rattle.forms.specs.Text.{written}
-use Rattle.forms.specs.Written.{Wrote, put_one, same_room}
+use Rattle.forms.specs.Written.{put_one, same_room}
 use Rattle.saved_text.proofs.writing.put_bytes.Goals as goal
 
 pub loop-i-init : goal.loop-i-init
 unfolding written
 loop-i-init c = (omega arith, record { buffer = refl; place = refl })
 
-pub bounds-word-i : goal.bounds-word-i
-bounds-word-i c = omega arith
-
 pub overflow_add-out : goal.overflow_add-out
 overflow_add-out c = omega (arith, c.requires, same_room c.loop-i.invariant.1, c.well_formed)
 
 pub bounds-out-at : goal.bounds-out-at
 bounds-out-at c = omega (arith, c.requires, same_room c.loop-i.invariant.1)
-
-pub overflow_add-i : goal.overflow_add-i
-overflow_add-i c = omega arith
-
-pub loop-i-smaller : goal.loop-i-smaller
-loop-i-smaller c = omega arith
 
 pub loop-i-preserved : goal.loop-i-preserved
 loop-i-preserved c =

@@ -1,11 +1,6 @@
 use Prim.Native.Nat.{◌+◌, ◌-◌, ◌≤◌}
-use mathlib.Core.Path.{◌≡◌, refl}
-use native.Mathlib.Omega.{arith}
-use native.Mathlib.Numerals.{add-one}
-use lib.ListN.{length, take, get_or}
-use lib.Seq.{take_all, take-suc}
-use Rattle.forms.specs.Text.{written}
-use Rattle.forms.specs.Written.{Wrote, put_one, same_room}
+use lib.ListN.{length, take}
+use Rattle.forms.specs.Written.{Wrote}
 use Rattle.saved_text.proofs.writing.put_bytes.Given as goal
 
 abbrev pub invariant-loop-i : goal.invariant-loop-i

@@ -1,7 +1,6 @@
 -- `saved_text::writing::put_field` meets its contract, kind by kind.
 use native.Mathlib.Omega.{arith}
 use Rattle.saved_text.specs.Length.{bits_length}
-use borrow.Author.Rules.{rules}
 use Rattle.saved_text.proofs.writing.put_field.Goals as goal
 
 pub put_number-requires : goal.put_number-requires

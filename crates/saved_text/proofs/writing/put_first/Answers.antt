@@ -1,9 +1,8 @@
 -- `saved_text::writing::put_first` meets its contract: letter, N and word are written one behind the other, or their bytes counted.
 use Prim.Native.Nat.{◌+◌, ◌≤◌}
-use mathlib.Core.Path.{◌≡◌, refl, ap, ◌∙◌}
+use mathlib.Core.Path.{◌≡◌, refl, ap}
 use mathlib.Core.List.{[], ◌∷◌, ◌++◌}
 use native.Mathlib.Omega.{arith}
-use borrow.Author.Tests.{not-true, not-false}
 use lib.ListN.{length, set, length-set, length-append}
 use Rattle.forms.specs.Letters.{first_letter}
 use Rattle.forms.specs.Text.{tab, newline, digits, digits_by, written}
@@ -11,7 +10,6 @@ use Rattle.forms.specs.Written.{Wrote, put_more, put_one, same_room}
 use Rattle.saved_text.specs.Writing.{whole_text}
 use Rattle.saved_text.specs.Written.{first_parts, first_length}
 use Rattle.saved_text.specs.Puts.{first_text}
-use borrow.Author.Rules.{rules}
 use Rattle.saved_text.proofs.writing.put_first.Goals as goal
 use Rattle.saved_text.proofs.writing.put_first.Goals.{After-digit_count, After-put_bytes-end, After-put_number-end, Else-not-write, Start}
 

@@ -6,7 +6,6 @@ use lib.ListN.{length}
 use Rattle.forms.specs.Text.{written}
 use Rattle.forms.specs.TextLaws.{whole_digits}
 use Rattle.forms.specs.Spelling.{reason_text}
-use borrow.Author.Rules.{rules}
 use Rattle.saved_text.proofs.writing.put_reason.Goals as goal
 
 pub bounds-out-at : goal.bounds-out-at

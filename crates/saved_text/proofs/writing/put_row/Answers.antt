@@ -1,10 +1,9 @@
 -- `saved_text::writing::put_row` meets its contract: what was written is the line with the numbers passed; where it is not written, its bytes are counted.
-use Prim.Native.Nat.{ℕ, ◌+◌, ◌-◌, ◌≤◌, ◌<◌}
-use mathlib.Core.Path.{◌≡◌, refl, ap, ◌∙◌}
-use mathlib.Core.List.{List, [], ◌∷◌, ◌++◌}
+use Prim.Native.Nat.{ℕ, ◌+◌, ◌≤◌, ◌<◌}
+use mathlib.Core.Path.{refl, ap}
+use mathlib.Core.List.{[], ◌∷◌, ◌++◌}
 use native.Mathlib.Omega.{arith}
-use borrow.Author.Tests.{not-true, not-false}
-use lib.ListN.{length, take, set, length-append, length-set, get_or}
+use lib.ListN.{length, take, length-append, length-set, get_or}
 use lib.Seq.{take_all}
 use Rattle.forms.specs.Text.{tab, newline, written}
 use Rattle.forms.specs.Spelling.{behind}

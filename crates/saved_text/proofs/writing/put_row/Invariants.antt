@@ -1,17 +1,10 @@
-use Prim.Native.Nat.{ℕ, ◌+◌, ◌-◌, ◌≤◌, ◌<◌}
-use mathlib.Core.Path.{◌≡◌, refl, ap, ◌∙◌}
-use mathlib.Core.List.{List, [], ◌∷◌, ◌++◌}
-use native.Mathlib.Omega.{arith}
-use borrow.Author.Tests.{not-true, not-false}
-use lib.ListN.{length, take, set, length-append, length-set, get_or}
-use lib.Seq.{take_all}
-use Rattle.forms.specs.Text.{tab, newline, written}
-use Rattle.forms.specs.Spelling.{behind}
-use Rattle.forms.specs.Written.{Wrote, put_one, same_room}
-use Rattle.saved_text.specs.Saved.{any_of, field_text, Fits, row_line}
-use Rattle.saved_text.specs.Length.{field_room, row_counted, row_part, row_room}
+use Prim.Native.Nat.{ℕ, ◌-◌, ◌≤◌}
+use mathlib.Core.Path.{◌≡◌}
+use mathlib.Core.List.{List, ◌++◌}
+use lib.ListN.{length, take, set}
+use Rattle.forms.specs.Written.{Wrote}
+use Rattle.saved_text.specs.Saved.{any_of, row_line}
 use Rattle.saved_text.specs.Puts.{kind_of}
-use Rattle.saved_text.specs.Written.{each_at, row_put}
 use Rattle.saved_text.proofs.writing.put_row.Given as goal
 
 abbrev pub invariant-loop-i : goal.invariant-loop-i

@@ -1,7 +1,6 @@
 -- `saved_text::writing::put_words` meets its contract: no long number stands behind the words.
 use mathlib.Core.List.{append-nil}
 use native.Mathlib.Omega.{arith}
-use borrow.Author.Rules.{rules}
 use Rattle.saved_text.proofs.writing.put_words.Goals as goal
 
 pub put_row-requires : goal.put_row-requires

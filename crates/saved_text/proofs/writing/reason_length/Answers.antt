@@ -4,7 +4,6 @@ use borrow.Author.Tests.{eq-eqb, ne_eqb}
 use lib.ListN.{length}
 use Rattle.forms.specs.TextLaws.{whole_digits}
 use Rattle.forms.specs.Spelling.{reason_text}
-use borrow.Author.Rules.{rules}
 use Rattle.saved_text.proofs.writing.reason_length.Goals as goal
 
 pub returns-then-v : goal.returns-then-v

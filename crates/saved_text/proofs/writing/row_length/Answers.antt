@@ -1,9 +1,9 @@
 -- `saved_text::writing::row_length` meets its contract: what was counted is the length of the line with the numbers passed.
-use Prim.Native.Nat.{ℕ, ◌+◌, ◌-◌, ◌*◌, ◌≤◌, ◌<◌}
+use Prim.Native.Nat.{ℕ, ◌<◌}
 use mathlib.Core.Path.{◌≡◌, ap, ◌∙◌}
 use mathlib.Core.List.{[], ◌∷◌, ◌++◌}
 use native.Mathlib.Omega.{arith}
-use lib.ListN.{length, take, length-append, get_or}
+use lib.ListN.{length, length-append, get_or}
 use lib.Seq.{take_all}
 use Rattle.forms.specs.Text.{newline}
 use Rattle.saved_text.specs.Saved.{any_of, field_text, Fits, row_line}

@@ -3,11 +3,7 @@ use mathlib.Core.Path.{sym, refl}
 use native.Mathlib.Omega.{arith}
 use lib.ListN.{length, length-append}
 use Rattle.laws.specs.Parts.{first_at, second_at}
-use borrow.Author.Rules.{rules}
 use Rattle.saved_text.proofs.writing.value.Goals as goal
-
-pub overflow_cast-result : goal.overflow_cast-result
-overflow_cast-result c = omega (arith, c.shared_slice_known-1.given c.args.i)
 
 pub returns-then-i-words : goal.returns-then-i-words
 returns-then-i-words c =

@@ -1,7 +1,4 @@
 -- `session::entry::scratch_ok` meets its contract: by the call.
-use mathlib.Core.List.{[], ◌∷◌}
-use types.Run.{miss}
-use borrow.Author.Rules.{rules}
 use Rattle.laws.specs.Tests.{true_or_false}
 use Rattle.session.specs.Calls.{is_group, group_exactly}
 use Rattle.session.proofs.entry.scratch_ok.Goals as goal

@@ -1,7 +1,6 @@
 -- `session::entry::size_refusal` meets its contract: by the tests in document 01's order.
 use mathlib.Core.Path.{sym, ◌∙◌}
-use borrow.Author.Rules.{rules}
-use borrow.Author.Tests.{lt-leb, le-leb, not-true, not-false}
+use borrow.Author.Tests.{lt-leb, le-leb}
 use Rattle.book.specs.Session.{need}
 use Rattle.session.specs.Entry.{sizes_checked}
 use Rattle.session.proofs.entry.size_refusal.Goals as goal

@@ -1,6 +1,5 @@
 -- `session::on_trail::at_level_zero` meets its contract: by its first test.
 use mathlib.Core.Path.{sym, ◌∙◌}
-use borrow.Author.Rules.{rules}
 use Rattle.session.proofs.on_trail.at_level_zero.Goals as goal
 
 pub returns-then-lit_set : goal.returns-then-lit_set

@@ -1,6 +1,5 @@
 -- `session::on_trail::enqueue` meets its contract: a variable that is not refused has room on the trail.
 use mathlib.Core.Path.{sym, ◌∙◌}
-use borrow.Author.Rules.{rules}
 use Rattle.session.proofs.Outcomes.{refused}
 use Rattle.session.proofs.OnTrail.{enqueue_room, enqueue_put}
 use Rattle.session.proofs.on_trail.enqueue.Goals as goal

@@ -2,7 +2,6 @@
 use Prim.Native.Nat.{◌-◌}
 use mathlib.Core.Path.{refl, ap}
 use native.Mathlib.Omega.{arith}
-use borrow.Author.Rules.{rules}
 use Rattle.trail.specs.Trail.{Trail}
 use Rattle.trail.specs.Laws.{levelled}
 use Rattle.trail.specs.Back.{back_len}

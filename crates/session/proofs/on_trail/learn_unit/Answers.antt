@@ -1,6 +1,5 @@
 -- `session::on_trail::learn_unit` meets its contract: a variable that is not refused has room once level 0 is reached.
 use mathlib.Core.Path.{sym, ◌∙◌}
-use borrow.Author.Rules.{rules}
 use Rattle.trail.specs.Laws.{levelled}
 use Rattle.session.proofs.Outcomes.{refused}
 use Rattle.session.proofs.OnTrail.{unit_room, unit_put}

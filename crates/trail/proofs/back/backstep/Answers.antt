@@ -3,7 +3,6 @@ use Prim.Native.Nat.{◌<◌}
 use native.Mathlib.Omega.{arith}
 use lib.ListN.{length}
 use Rattle.trail.specs.Trail.{backstep}
-use borrow.Author.Rules.{rules}
 use Rattle.trail.proofs.back.backstep.Goals as goal
 use Rattle.trail.proofs.back.backstep.Goals.{After-index-v}
 

@@ -3,11 +3,8 @@ use Prim.Native.Nat.{◌-◌}
 use mathlib.Core.Path.{◌≡◌, sym, ◌∙◌}
 use native.Mathlib.Nat.{sub-zero}
 use native.Mathlib.Omega.{arith}
-use borrow.Author.Rules.{rules}
-use lib.ListN.{length}
 use Rattle.trail.specs.Trail.{backsteps}
-use Rattle.trail.specs.Memory.{trail_of}
-use Rattle.trail.proofs.back.Going.{Undoing, undo_more}
+use Rattle.trail.proofs.back.Going.{undo_more}
 use Rattle.trail.proofs.back.backsteps.Goals as goal
 
 pub loop-i-init : goal.loop-i-init

@@ -1,7 +1,6 @@
 -- `trail::back::backtrack_safe` meets its contract, by the test on the level.
 use borrow.Author.Tests.{lt-ltb, le-ltb}
 use Rattle.trail.specs.Trail.{backtrack_safe}
-use borrow.Author.Rules.{rules}
 use Rattle.trail.proofs.back.backtrack_safe.Goals as goal
 
 pub returns-then-level-s : goal.returns-then-level-s

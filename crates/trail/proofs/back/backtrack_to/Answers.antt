@@ -3,7 +3,6 @@ use mathlib.Core.Path.{ap, ◌∙◌}
 use native.Mathlib.Omega.{arith}
 use Rattle.trail.specs.Trail.{Trail, rewind}
 use Rattle.trail.proofs.back.Going.{backsteps_level, went_back}
-use borrow.Author.Rules.{rules}
 use Rattle.trail.proofs.back.backtrack_to.Goals as goal
 
 pub close_levels-u-requires : goal.close_levels-u-requires

@@ -2,9 +2,8 @@
 use Prim.Native.Nat.{◌-◌}
 use mathlib.Core.Path.{◌≡◌, refl}
 use native.Mathlib.Omega.{arith}
-use borrow.Author.Rules.{rules}
 use Rattle.trail.specs.Trail.{close_levels}
-use Rattle.trail.proofs.back.Going.{Closing, close_more}
+use Rattle.trail.proofs.back.Going.{close_more}
 use Rattle.trail.proofs.back.close_levels.Goals as goal
 
 pub loop-level-init : goal.loop-level-init

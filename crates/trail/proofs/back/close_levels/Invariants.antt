@@ -1,9 +1,5 @@
 use Prim.Native.Nat.{◌-◌}
-use mathlib.Core.Path.{◌≡◌, refl}
-use native.Mathlib.Omega.{arith}
-use borrow.Author.Rules.{rules}
-use Rattle.trail.specs.Trail.{close_levels}
-use Rattle.trail.proofs.back.Going.{Closing, close_more}
+use Rattle.trail.proofs.back.Going.{Closing}
 use Rattle.trail.proofs.back.close_levels.Given as goal
 
 abbrev pub invariant-loop-level : goal.invariant-loop-level

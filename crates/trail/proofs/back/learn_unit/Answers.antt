@@ -2,7 +2,6 @@
 use mathlib.Core.Path.{ap, ◌∙◌}
 use Rattle.trail.specs.Trail.{enq_assignment, learn_unit}
 use Rattle.lit.specs.Numbers.{NONE}
-use borrow.Author.Rules.{rules}
 use Rattle.trail.proofs.back.learn_unit.Goals as goal
 
 pub enq_assignment-requires : goal.enq_assignment-requires

@@ -1,7 +1,6 @@
 -- `trail_check::facts::counts_ok` meets its contract, by its tests.
 use Rattle.trail_check.specs.Check.{counts_ok}
 use borrow.Author.Tests.{le-leb, lt-leb}
-use borrow.Author.Rules.{rules}
 use Rattle.trail_check.proofs.facts.counts_ok.Goals as goal
 
 pub returns-then-s-n-2 : goal.returns-then-s-n-2

@@ -1,6 +1,4 @@
 -- `trail_check::facts::covered` meets its contract: of a marked variable every value passes.
-use mathlib.Core.Logic.{⊎_elim}
-use borrow.Author.Rules.{rules}
 use Rattle.trail_check.proofs.facts.Least.{any_value, unassigned_value}
 use Rattle.trail_check.proofs.facts.covered.Goals as goal
 use Rattle.trail_check.proofs.facts.covered.Goals.{else-marks-v, then-marks-v}

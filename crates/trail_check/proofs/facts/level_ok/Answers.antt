@@ -1,6 +1,5 @@
 -- `trail_check::facts::level_ok` meets its contract, by its tests.
 use borrow.Author.Tests.{eq-eqb, ne_eqb, lt-ltb, le-ltb}
-use borrow.Author.Rules.{rules}
 use Rattle.trail_check.proofs.facts.level_ok.Goals as goal
 
 pub returns-then-k-eq0 : goal.returns-then-k-eq0

@@ -1,6 +1,5 @@
 -- `trail_check::facts::literal_ok` meets its contract, by its tests.
 use mathlib.Core.Path.{sym, ◌∙◌}
-use borrow.Author.Rules.{rules}
 use borrow.Author.Tests.{lt-ltb, le-ltb}
 use Rattle.trail_check.proofs.facts.literal_ok.Goals as goal
 

@@ -1,6 +1,5 @@
 -- `trail_check::facts::reason_ok` meets its contract, by its tests.
 use borrow.Author.Tests.{eq-eqb, ne_eqb, lt-ltb, le-ltb}
-use borrow.Author.Rules.{rules}
 use Rattle.trail_check.proofs.facts.reason_ok.Goals as goal
 
 pub returns-then-reasons-v : goal.returns-then-reasons-v

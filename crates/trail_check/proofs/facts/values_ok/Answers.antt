@@ -1,9 +1,6 @@
 -- `trail_check::facts::values_ok` meets its contract: what is known of the variables passed so far is that they pass the test, or not.
-use Prim.Native.Nat.{◌≤◌, ◌-◌}
 use mathlib.Core.Path.{◌≡◌, refl}
-use mathlib.Core.Logic.{⊎_elim}
 use native.Mathlib.Omega.{arith}
-use borrow.Author.Rules.{rules}
 use borrow.Author.Tests.{le-leb, lt-leb}
 use lib.ListN.{length}
 use Rattle.laws.specs.Every.{every, flag_stays, flag_falls}

@@ -1,14 +1,9 @@
 use Prim.Native.Nat.{◌≤◌, ◌-◌}
-use mathlib.Core.Path.{◌≡◌, refl, sym, ◌∙◌}
-use mathlib.Core.Logic.{⊎_elim}
-use native.Mathlib.Omega.{arith}
-use borrow.Author.Rules.{rules}
-use borrow.Author.Tests.{not-true, not-false}
+use mathlib.Core.Path.{◌≡◌}
 use lib.Dec.{eqb}
 use lib.ListN.{length}
 use Rattle.laws.specs.Every.{every}
 use Rattle.vsids.specs.Untouched.{activity_within}
-use Rattle.vsids.proofs.heap_check.Branches.{passes_uncounted, failure_counted}
 use Rattle.vsids.proofs.heap_check.activities_within.Given as goal
 
 abbrev pub invariant-loop-v : goal.invariant-loop-v

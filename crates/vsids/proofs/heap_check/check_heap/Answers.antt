@@ -2,12 +2,10 @@
 use mathlib.Core.Path.{◌≡◌, sym, ◌∙◌}
 use mathlib.Core.Bool.{true}
 use native.Mathlib.Omega.{arith}
-use borrow.Author.Rules.{rules}
-use borrow.Author.Tests.{not-true, not-false}
 use lib.ListN.{length}
 use Rattle.laws.specs.Every.{every}
 use Rattle.activity.specs.Step.{good_step}
-use Rattle.vsids.specs.Vsids.{Vsids, vsids_of, places, before}
+use Rattle.vsids.specs.Vsids.{vsids_of, places, before}
 use Rattle.vsids.specs.Check.{switch_ok, place_ok}
 use Rattle.vsids.proofs.Untouched.{untouched_places, untouched_activities, untouched_positions}
 use Rattle.vsids.proofs.Outside.{positions_counted}

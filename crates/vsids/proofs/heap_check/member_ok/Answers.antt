@@ -1,6 +1,5 @@
 -- `member_ok` meets its contract: each branch is one of the test's.
 use native.Mathlib.Omega.{arith}
-use borrow.Author.Rules.{rules}
 use Rattle.vsids.proofs.heap_check.Branches.{member_large, member_other, member_own}
 use Rattle.vsids.proofs.heap_check.member_ok.Goals as goal
 

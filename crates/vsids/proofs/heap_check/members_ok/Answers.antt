@@ -1,13 +1,7 @@
 -- `members_ok` meets its contract. The loop's invariant: every place below i is good.
 use mathlib.Core.Path.{sym, ◌∙◌}
-use Prim.Native.Nat.{◌-◌}
 use native.Mathlib.Omega.{arith}
-use borrow.Author.Rules.{rules}
-use borrow.Author.Tests.{not-true, not-false}
-use lib.ListN.{length}
-use Rattle.laws.specs.Every.{Passed, passed_none, passed_more, passed_all, passed_fails, every_at}
-use Rattle.heap.specs.Heap.{comes_first, places_of}
-use Rattle.vsids.specs.Check.{member_ok}
+use Rattle.laws.specs.Every.{passed_none, passed_more, passed_all, passed_fails, every_at}
 use Rattle.vsids.proofs.Check.{variable_says}
 use Rattle.vsids.proofs.heap_check.members_ok.Goals as goal
 

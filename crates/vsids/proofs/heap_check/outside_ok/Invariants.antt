@@ -1,15 +1,10 @@
 use Prim.Native.Nat.{◌≤◌, ◌-◌}
-use mathlib.Core.Path.{◌≡◌, refl, sym, ◌∙◌}
-use mathlib.Core.Logic.{⊎_elim}
-use native.Mathlib.Omega.{arith}
-use borrow.Author.Rules.{rules}
-use borrow.Author.Tests.{not-true, not-false, eq-eqb, ne_eqb}
+use mathlib.Core.Path.{◌≡◌}
 use lib.Dec.{eqb}
 use lib.ListN.{length}
 use Rattle.laws.specs.Every.{every}
-use Rattle.laws.specs.Some.{count, count_one, count_none}
-use Rattle.vsids.specs.Outside.{outside_at, settled_at, outside_ok}
-use Rattle.vsids.proofs.heap_check.Branches.{passes_uncounted, failure_counted}
+use Rattle.laws.specs.Some.{count}
+use Rattle.vsids.specs.Outside.{outside_at, settled_at}
 use Rattle.vsids.proofs.heap_check.outside_ok.Given as goal
 
 abbrev pub invariant-loop-v : goal.invariant-loop-v

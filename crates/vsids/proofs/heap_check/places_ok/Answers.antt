@@ -1,8 +1,6 @@
 -- `places_ok` meets its contract: the test of every place is that of the places in use and that of the others.
 use mathlib.Core.Path.{◌≡◌, sym, ◌∙◌}
 use native.Mathlib.Omega.{arith}
-use borrow.Author.Rules.{rules}
-use borrow.Author.Tests.{not-true, not-false}
 use lib.ListN.{length}
 use mathlib.Core.Bool.{◌&&◌}
 use Rattle.laws.specs.Every.{every}

@@ -1,10 +1,6 @@
 -- `settled` meets its contract: each bar is one of the test's cases.
-use mathlib.Core.Logic.{⊎_elim}
 use mathlib.Core.Path.{◌∙◌}
-use Prim.Native.Nat.{◌<◌}
 use native.Mathlib.Omega.{arith}
-use lib.ListN.{get_or}
-use borrow.Author.Rules.{rules}
 use Rattle.vsids.proofs.heap_check.Branches.{open_barred, member_passes, off_passes}
 use Rattle.vsids.proofs.heap_check.settled.Goals as goal
 use Rattle.vsids.proofs.heap_check.settled.Goals.{else-decision-v-eq-ON, else-indices-v, then-decision-v-eq-ON, then-indices-v}

@@ -1,13 +1,8 @@
 -- `switches_ok` meets its contract. The loop's invariant: the greatest switch below v is on or off exactly where all of them are.
-use Prim.Native.Nat.{◌≤◌, ◌-◌}
 use mathlib.Core.Path.{◌≡◌, refl}
-use mathlib.Core.Logic.{⊎_elim}
 use native.Mathlib.Omega.{arith}
-use borrow.Author.Rules.{rules}
-use lib.Dec.{ltb}
 use lib.ListN.{length}
 use Rattle.laws.specs.Every.{every}
-use Rattle.vsids.specs.Check.{switch_ok}
 use Rattle.vsids.proofs.heap_check.Branches.{greater_taken, other_left}
 use Rattle.vsids.proofs.heap_check.switches_ok.Goals as goal
 use Rattle.vsids.proofs.heap_check.switches_ok.Goals.{else-decision-v, then-decision-v}

@@ -1,13 +1,9 @@
 use Prim.Native.Nat.{◌≤◌, ◌-◌}
-use mathlib.Core.Path.{◌≡◌, refl}
-use mathlib.Core.Logic.{⊎_elim}
-use native.Mathlib.Omega.{arith}
-use borrow.Author.Rules.{rules}
+use mathlib.Core.Path.{◌≡◌}
 use lib.Dec.{ltb}
 use lib.ListN.{length}
 use Rattle.laws.specs.Every.{every}
 use Rattle.vsids.specs.Check.{switch_ok}
-use Rattle.vsids.proofs.heap_check.Branches.{greater_taken, other_left}
 use Rattle.vsids.proofs.heap_check.switches_ok.Given as goal
 
 abbrev pub invariant-loop-v : goal.invariant-loop-v

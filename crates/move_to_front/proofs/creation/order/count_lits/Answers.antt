@@ -1,12 +1,9 @@
 -- The loop's invariant: counting on from place i gives the goal, and no count is above i.
-use Prim.Native.Nat.{ℕ, zero, suc, ◌+◌, ◌≤◌, ◌<◌, ◌-◌}
-use mathlib.Core.Path.{◌≡◌, refl, sym, ◌∙◌}
-use mathlib.Core.List.{List}
+use Prim.Native.Nat.{ℕ, zero, suc, ◌+◌, ◌≤◌, ◌<◌}
+use mathlib.Core.Path.{refl, sym, ◌∙◌}
 use native.Mathlib.Omega.{arith}
-use borrow.Author.Rules.{rules}
-use lib.ListN.{length, get_or, drop, replicate, length-set}
+use lib.ListN.{length, get_or, replicate, length-set}
 use Rattle.laws.specs.Lists.{set_cases}
-use Rattle.vmtf.specs.Vmtf.{count_lits}
 use Rattle.vmtf.specs.Laws.{count_step, count_end}
 use Rattle.move_to_front.proofs.creation.order.count_lits.Goals as goal
 use Rattle.move_to_front.proofs.creation.order.count_lits.Goals.{After-index-v}

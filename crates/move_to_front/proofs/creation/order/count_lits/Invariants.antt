@@ -1,12 +1,8 @@
-use Prim.Native.Nat.{ℕ, zero, suc, ◌+◌, ◌≤◌, ◌<◌, ◌-◌}
-use mathlib.Core.Path.{◌≡◌, refl, sym, ◌∙◌}
+use Prim.Native.Nat.{ℕ, ◌≤◌, ◌-◌}
+use mathlib.Core.Path.{◌≡◌}
 use mathlib.Core.List.{List}
-use native.Mathlib.Omega.{arith}
-use borrow.Author.Rules.{rules}
-use lib.ListN.{length, get_or, drop, replicate, length-set}
-use Rattle.laws.specs.Lists.{set_cases}
+use lib.ListN.{length, get_or, drop}
 use Rattle.vmtf.specs.Vmtf.{count_lits}
-use Rattle.vmtf.specs.Laws.{count_step, count_end}
 use Rattle.move_to_front.proofs.creation.order.count_lits.Given as goal
 
 pub record Counting (codes : List ℕ) (n : ℕ) (goal : List ℕ) (i : ℕ) (counts : List ℕ) : Type 0 where

@@ -6,7 +6,6 @@ use lib.ListN.{replicate}
 use Rattle.laws.specs.InPlace.{up_to}
 use Rattle.vmtf.specs.Vmtf.{count_lits}
 use Rattle.vmtf.specs.Laws.{order_from}
-use borrow.Author.Rules.{rules}
 use Rattle.move_to_front.proofs.creation.order.lit_order.Goals as goal
 
 pub count_lits-requires : goal.count_lits-requires

@@ -1,11 +1,10 @@
 -- `move_to_front::creation::order::number` meets its contract. The loop's invariant: the first i places hold their own numbers, the others what they held.
 use Rattle.laws.specs.InPlace.{up_to}
-use Prim.Native.Nat.{◌≤◌, ◌<◌, ◌-◌}
+use Prim.Native.Nat.{◌<◌}
 use mathlib.Core.Path.{◌≡◌, refl, ◌∙◌}
 use native.Mathlib.Omega.{arith}
-use borrow.Author.Rules.{rules}
 use lib.ListN.{length, length-set}
-use Rattle.laws.specs.InPlace.{counted, counted_next, counted_end}
+use Rattle.laws.specs.InPlace.{counted_next, counted_end}
 use Rattle.move_to_front.proofs.creation.order.number.Goals as goal
 
 pub loop-i-init : goal.loop-i-init

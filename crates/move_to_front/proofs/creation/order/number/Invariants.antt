@@ -1,10 +1,7 @@
-use Rattle.laws.specs.InPlace.{up_to}
-use Prim.Native.Nat.{◌≤◌, ◌<◌, ◌-◌}
-use mathlib.Core.Path.{◌≡◌, refl, ◌∙◌}
-use native.Mathlib.Omega.{arith}
-use borrow.Author.Rules.{rules}
-use lib.ListN.{length, length-set}
-use Rattle.laws.specs.InPlace.{counted, counted_next, counted_end}
+use Prim.Native.Nat.{◌≤◌, ◌-◌}
+use mathlib.Core.Path.{◌≡◌}
+use lib.ListN.{length}
+use Rattle.laws.specs.InPlace.{counted}
 use Rattle.move_to_front.proofs.creation.order.number.Given as goal
 
 abbrev pub invariant-loop-i : goal.invariant-loop-i

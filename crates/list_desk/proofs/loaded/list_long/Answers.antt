@@ -1,0 +1,10 @@
+-- `list_desk::loaded::list_long` meets its contract: the arrays have room.
+use native.Mathlib.Omega.{arith}
+use Rattle.list_desk.proofs.loaded.list_long.Goals as goal
+
+pub list_slices-requires : goal.list_slices-requires
+list_slices-requires c =
+    record { room = (c.requires.0, c.requires.1, omega (arith, c.requires.2), record { codes = λ k few short. few; clauses = λ k few short. few }, omega arith); n_in_bounds = (omega (arith, c.requires.2), omega (arith, c.requires.2), omega (arith, c.requires.2), omega (arith, c.requires.2), omega (arith, c.requires.2)); n_in_bounds_2 = (omega (arith, c.requires.2), omega (arith, c.requires.2), omega (arith, c.requires.2)); n_in_bounds_3 = (omega (arith, c.requires.2), omega (arith, c.requires.2), omega (arith, c.requires.2), omega (arith, c.requires.2)) }
+
+pub returns : goal.returns
+returns c = c.list_slices.ensures

@@ -1,0 +1,18 @@
+-- `list_desk::loaded::list_slices` meets its contract: what was loaded is what the text says.
+use native.Mathlib.Omega.{arith}
+use Rattle.saved_run.specs.Holding.{still_holds}
+use Rattle.list_desk.proofs.loaded.list_slices.Goals as goal
+
+pub load_front-x-requires : goal.load_front-x-requires
+load_front-x-requires c =
+    record { opens_with = (c.requires.room.1, c.requires.room.2, c.requires.room.4); n_in_bounds = c.requires.n_in_bounds; n_in_bounds_2 = c.requires.n_in_bounds_2; n_in_bounds_3 = c.requires.n_in_bounds_3 }
+
+pub list_loaded-requires : goal.list_loaded-requires
+list_loaded-requires c =
+    let f = c.load_front-x in
+    record { room = (c.requires.room.0, c.requires.room.2); n_in_bounds = (omega (arith, f.auto.values, c.requires.n_in_bounds.0), omega (arith, f.auto.levels, c.requires.n_in_bounds.1), omega (arith, f.auto.reasons, c.requires.n_in_bounds.2), omega (arith, f.auto.trail, c.requires.n_in_bounds.3), omega (arith, f.auto.opened, c.requires.n_in_bounds.4)); n_in_bounds_2 = (omega (arith, f.auto.next, c.requires.n_in_bounds_2.0), omega (arith, f.auto.prev, c.requires.n_in_bounds_2.1), omega (arith, f.auto.ts, c.requires.n_in_bounds_2.2)); by_index = (c.args.old.now, c.args.at, record { opens = c.requires.room.1; holds = still_holds f.auto.lits f.auto.ends c.requires.room.3; loads = f.ensures }) }
+
+pub returns : goal.returns
+returns c =
+    let f = c.load_front-x in
+    c.list_loaded.ensures c.args.old.now c.args.at (record { opens = c.requires.room.1; holds = still_holds f.auto.lits f.auto.ends c.requires.room.3; loads = f.ensures })

@@ -1,0 +1,2 @@
+-- What the functions over nodes share.
+pub mod Parts

@@ -1,0 +1,27 @@
+-- `saved_desk::sigvort_run_new` meets its contract: it is `run_new`, whose counts have 32 bits.
+use native.Mathlib.Omega.{arith}
+use lib.ListN.{length}
+use Rattle.saved_sheet.specs.Sheets.{ran_new}
+use Rattle.saved_desk.specs.Entry.{counts_small, gives_written, gives_refused}
+use Rattle.saved_desk.proofs.Small.{new_small}
+use Rattle.saved_desk.proofs.sigvort_run_new.Goals as goal
+
+pub overflow_cast-written : goal.overflow_cast-written
+overflow_cast-written c =
+    let f = c.run_new-r in
+    omega (arith, (counts_small c.args.answers.now c.args.text.now f.new.answers f.new.text (ran_new c.args.sheet.now (length c.args.answers.now) (length c.args.text.now)) (new_small c.args.sheet.now (length c.args.answers.now) (length c.args.text.now)) (rw c.in-Written.is at f.ensures)).1)
+
+pub overflow_cast-result : goal.overflow_cast-result
+overflow_cast-result c =
+    let f = c.run_new-r in
+    omega (arith, (counts_small c.args.answers.now c.args.text.now f.new.answers f.new.text (ran_new c.args.sheet.now (length c.args.answers.now) (length c.args.text.now)) (new_small c.args.sheet.now (length c.args.answers.now) (length c.args.text.now)) (rw c.in-Written.is at f.ensures)).0)
+
+pub returns-in-Written : goal.returns-in-Written
+returns-in-Written c =
+    let f = c.run_new-r in
+    gives_written c.args.answers.now c.args.text.now f.new.answers f.new.text (ran_new c.args.sheet.now (length c.args.answers.now) (length c.args.text.now)) c.args.written.now c.in-Written.b (rw c.in-Written.is at f.ensures)
+
+pub returns-in-Refused : goal.returns-in-Refused
+returns-in-Refused c =
+    let f = c.run_new-r in
+    gives_refused c.args.answers.now c.args.text.now f.new.answers f.new.text (ran_new c.args.sheet.now (length c.args.answers.now) (length c.args.text.now)) c.args.written.now c.in-Refused.k (rw c.in-Refused.is at f.ensures)

@@ -1,0 +1,16 @@
+-- `saved_state::loading::copy_doubles` meets its contract. The loop's invariant: the first i places are copied.
+use mathlib.Core.Path.{refl}
+use native.Mathlib.Omega.{arith}
+use lib.Seq.{length-take-le}
+use lib.Ieee.{nan}
+use Rattle.saved_state.specs.Loops.{front_start, copied_next, front_end}
+use Rattle.saved_state.proofs.loading.copy_doubles.Goals as goal
+
+pub loop-i-init : goal.loop-i-init
+loop-i-init c = front_start (length-take-le _ _ c.requires) refl
+
+pub loop-i-preserved : goal.loop-i-preserved
+loop-i-preserved c = copied_next _ nan c.loop-i.invariant (omega arith)
+
+pub returns : goal.returns
+returns c = let f = c.loop-i.invariant in front_end f (omega (arith, f.long))

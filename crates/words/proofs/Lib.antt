@@ -1,0 +1,4 @@
+pub mod Going
+pub mod Alone
+pub mod Entered
+pub mod InARow
