@@ -1,5 +1,5 @@
-/* The proved option chooser, as a C program calls it. Link with libsigvort.a, which `hosts/library` writes for x86-64 Linux; it needs memset and nothing
-   else.
+/* The proved option chooser, as a C program calls it. Link with libsigvort.a, which `hosts/library` writes for x86-64 Linux; it needs memset and
+   memcpy, and nothing else.
 
    Two ways in. sigvort_run takes a call sheet as text and answers it as text. The entries sigvort_heap_* and sigvort_list_* take lists of calls as
    numbers, on memory that the caller lends: a session. Most callers need only the small functions below the entries, which take a struct for that

@@ -165,7 +165,7 @@ def shown():
     sheet = read(os.path.join(ROOT, "examples/worked.sheet"))
     for page in "README.md", "docs/SAVED.md":
         text = open(os.path.join(ROOT, page), encoding="utf-8").read()
-        block = re.search(rf"carry new {FILE} < examples/worked.sheet\n    printf '(.*)' \| target/bin/carry on {FILE}\n\n((?:    .*\n)+)", text)
+        block = re.search(rf"carry new {FILE} < examples/worked.sheet\n    printf '(.*)' \| \$carry on {FILE}\n\n((?:    .*\n)+)", text)
         gone()
         expect(goes(["new", FILE], sheet), desk(sheet), "the worked sheet is answered otherwise")
         calls = block[1].replace("\\t", "\t").replace("\\n", "\n").encode()
@@ -178,7 +178,7 @@ def shown():
     script = re.search("^    if told=.*?^    fi$", text, re.M | re.S)[0]
     for calls, meddle, wanted in (b"g\t1\n", "", b"saved"), (b"y" * 32769, "", b"look at"), (b"g\t1\n", f"CARRY_KILL=9 LD_PRELOAD={MEDDLE} ", b"look at"):
         write(calls, "calls")
-        found = run(["-c", script.replace("target/bin/carry", meddle + CARRY)], program="sh")[0]
+        found = run(["-c", script.replace("$carry", meddle + CARRY)], program="sh")[0]
         expect(found.startswith(wanted), True, "the script of docs/SAVED.md ends otherwise")
 
 
@@ -281,17 +281,21 @@ def names():
     taken = "not saved: it is there already"
     os.mkdir("folder")
     os.symlink("nowhere", "link")
+    os.symlink(b"\xff", "odd")
     os.mkfifo("pipe")
-    for name in "folder", "link", "pipe", ".", "/":
+    for name in "folder", "link", "odd", "pipe", ".", "/":
         fails(["new", name], f"carry: {name}: {taken}", b"n\t1\tvsids\n")
     fails(["on", "folder"], "carry: folder: not read: Is a directory")
-    for name in FILE, "link", "no/day", "folder/day":
+    for name in FILE, "link", "odd", "no/day", "folder/day":
         fails(["on", name], f"carry: {name}: not read: No such file or directory")
     answers = desk(b"n\t1\tvsids\n")
     fails(["new", "no/day"], "carry: no/day: not saved: No such file or directory", b"n\t1\tvsids\n", answers)
     fails(["new", "link/day"], "carry: link/day: not saved: No such file or directory", b"n\t1\tvsids\n", answers)
     fails(["new", "x" * 300], "carry: " + "x" * 300 + ": not saved: File name too long", b"n\t1\tvsids\n")
     fails(["new", "x/" * 2100], "carry: FILE: the name is too long", b"n\t1\tvsids\n")
+    for word in "new", "on":
+        fails([word, b"\xff"], "carry: FILE: the name is not UTF-8", b"n\t1\tvsids\n")
+    fails(["old", b"\xff"], USAGE)
     for name in "folder/day", os.path.abspath("day"), "./two words\n", "-":
         expect(goes(["new", name], b"n\t1\tvsids\n"), answers, "a new session in another folder is answered otherwise")
         expect(goes(["on", name], b"g\t1\n"), b"1\t0\t0\n", "a session in another folder is answered otherwise")
@@ -341,7 +345,7 @@ def unwritable():
 
 
 def full():
-    """A disk that is full for the text, or for the answers; an input that cannot be read."""
+    """A disk that is full for the text, or for the answers; an input that cannot be read; no memory for the buffers."""
     def small():
         signal.signal(signal.SIGXFSZ, signal.SIG_IGN)
         resource.setrlimit(resource.RLIMIT_FSIZE, (50, 50))
@@ -363,19 +367,22 @@ def full():
     fails(["on", FILE], "carry: standard input: not read: Is a directory", stdin=folder)
     os.close(folder)
     expect(goes(["on", FILE], b"g\t1\n", preexec_fn=lambda: os.close(2)), b"1\t0\t0\n", "without standard error a sheet is answered otherwise")
+    bare = dict(preexec_fn=lambda: resource.setrlimit(resource.RLIMIT_DATA, (2**19, 2**19)))
+    fails(["on", FILE], f"carry: {FILE}: not saved: out of memory", b"g\t1\n", **bare)
+    gone()
+    fails(["new", FILE], f"carry: {FILE}: not saved: out of memory", sheet, **bare)
 
 
 def unread():
-    """Answers that nobody reads: a signal ends the program, and where that is ignored it tells so. Every file stays as it was."""
+    """Answers that nobody reads: the program tells so, whatever SIGPIPE is to do. Every file stays as it was."""
     end, pipe = os.pipe()
     os.close(end)
+    unprinted = "carry: standard output: not written, and nothing is saved: Broken pipe"
     for words, sheet, text in (["new", FILE], b"n\t1\tvsids\n", None), (["on", FILE], b"g\t1\n", heap_text(1)):
         if text:
             write(text)
-        before = files()
-        expect((run(words, sheet, stdout=pipe), files()), ((b"", b"", -signal.SIGPIPE), before), f"carry {words} into a closed pipe ends otherwise")
-        fails(words, "carry: standard output: not written, and nothing is saved: Broken pipe", sheet, stdout=pipe,
-            preexec_fn=lambda: signal.signal(signal.SIGPIPE, signal.SIG_IGN))
+        for action in signal.SIG_DFL, signal.SIG_IGN:
+            fails(words, unprinted, sheet, stdout=pipe, preexec_fn=lambda: signal.signal(signal.SIGPIPE, action))
     os.close(pipe)
 
 
@@ -385,7 +392,7 @@ def meddled():
     sheet, answers = b"b\t2\ng\t1\n", b"1\t0\t-\n2\t0\t2\n"
     new_sheet, new_answers = b"n\t3\tvsids\nb\t2\n", b"1\t0\t-\n2\t0\t-\n"
     no_space, no_device, not_allowed = ("No space left on device", 28), ("Input/output error", 5), ("Permission denied", 13)
-    for call, (words, number) in [("create", no_space), ("write", no_space), ("fsync", no_device), ("close", no_device), ("rename", not_allowed)]:
+    for call, (words, number) in [("create", no_space), ("write", no_space), ("fsync", no_device), ("rename", not_allowed)]:
         meddle = {"CARRY_FAIL": f"{call} {number}"}
         fails(["new", FILE], f"carry: {FILE}: not saved: {words}", new_sheet, new_answers, meddle=meddle)
         write(text)
@@ -399,7 +406,8 @@ def meddled():
         fails(["on", FILE], f"carry: {FILE}: not saved: Operation not permitted", sheet, answers, meddle={"CARRY_FAIL": call})
     goes(["on", FILE], sheet)
     wanted_on = read()
-    for harmless in {"CARRY_FAIL": "getentropy 38"}, {"CARRY_FAIL": "fchown 1"}, {"CARRY_SHORT": "1"}, {"CARRY_SHORT": "7"}:
+    # the text has reached the disk before its file is closed
+    for harmless in {"CARRY_FAIL": "getentropy 38"}, {"CARRY_FAIL": "fchown 1"}, {"CARRY_FAIL": "close 5"}, {"CARRY_SHORT": "1"}, {"CARRY_SHORT": "7"}:
         gone()
         expect((goes(["new", FILE], new_sheet, meddle=harmless), read()), (new_answers, wanted_new), f"{harmless}: a new session is another")
         write(text)

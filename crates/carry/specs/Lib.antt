@@ -1,2 +1,2 @@
--- The program carry: laws that its proofs cite.
-pub mod Counting
+-- The program carry: the names of its files.
+pub mod Names

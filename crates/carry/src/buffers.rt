@@ -1,30 +1,32 @@
 // The buffers of a run, zeros at first. The contracts give their lengths, which lending them as slices needs.
-ghost use Rattle.std.specs.Prelude.{◌≡◌, length};
+ghost use Rattle.std.specs.Prelude.{◌≡◌, IfOk, vec_len};
+
+use std::alloc::{AllocError, Global};
 
 // For a sheet, with a byte more, which tells that it is too long.
-pub fn sheet() -> [u8; 32769]
-    ensures { 32769 ≡ length result }
+pub fn sheet(alloc: Global) -> Result<Vec<u8>, AllocError>
+    ensures { IfOk result (λ buffer. 32769 ≡ vec_len buffer) }
 {
-    [0; 32769]
+    Vec::from_elem(alloc, 0, 32769)
 }
 
 // For the answers to any sheet: 24 bytes for each of 32,768.
-pub fn answers() -> [u8; 786432]
-    ensures { 786432 ≡ length result }
+pub fn answers(alloc: Global) -> Result<Vec<u8>, AllocError>
+    ensures { IfOk result (λ buffer. 786432 ≡ vec_len buffer) }
 {
-    [0; 786432]
+    Vec::from_elem(alloc, 0, 786432)
 }
 
 // For the text of any session: 80 + 41 * 2,048 + 2 * 2,048 + 5 * 8,192 bytes.
-pub fn text() -> [u8; 129104]
-    ensures { 129104 ≡ length result }
+pub fn text(alloc: Global) -> Result<Vec<u8>, AllocError>
+    ensures { IfOk result (λ buffer. 129104 ≡ vec_len buffer) }
 {
-    [0; 129104]
+    Vec::from_elem(alloc, 0, 129104)
 }
 
 // For a file: eight times the longest text, so that its refusal can be told, with a byte more, which tells that it is longer.
-pub fn old() -> [u8; 1048577]
-    ensures { 1048577 ≡ length result }
+pub fn old(alloc: Global) -> Result<Vec<u8>, AllocError>
+    ensures { IfOk result (λ buffer. 1048577 ≡ vec_len buffer) }
 {
-    [0; 1048577]
+    Vec::from_elem(alloc, 0, 1048577)
 }

@@ -1,87 +1,63 @@
 // Names of files: whether one is free, the one that a file has aside, and the folder in it.
-ghost use Rattle.std.specs.Prelude.{◌≤◌, length};
-ghost use Rattle.io.specs.Counts.{IsPrefixLen};
-ghost use Rattle.libc.specs.Io.{Ended};
+ghost use Rattle.std.specs.Prelude.{IfOk, string_bytes};
+ghost use Rattle.carry.specs.Names.{IsAside, IsFolder, AreLetters};
 
 use crate::tell;
-use libc::PATH_MAX;
+use std::alloc::AllocError;
+use std::fs;
+use std::io::ErrorKind;
+use std::random::RandomSource;
 
-// Whether nothing has the name, not even a link that leads nowhere: `readlink` follows no link, and tells what is no link from what is not there. Where the name
+// Whether nothing has the name, not even a link that leads nowhere: reading a link follows none, and tells what is no link from what is not there. Where the name
 // is taken, or that cannot be found out, tells so.
-pub fn is_free(file: &[u8]) -> bool {
-    let path = ended(file);
-    let mut target = [0u8; 1];
-    if libc::readlink(&path, &mut target) < 0 {
-        if os::errno() == libc::ENOENT {
-            return true;
-        }
-        if os::errno() != libc::EINVAL {
-            tell::failure(file, b"not saved");
-            return false;
-        }
+pub fn is_free(rt: &HostRuntime, file: &str) -> bool {
+    match fs::read_link(rt, file) {
+        Ok(_) => {}
+        Err(e) => match e.kind() {
+            ErrorKind::NotFound => return true,
+            // it is no link
+            ErrorKind::InvalidInput => {}
+            // it is a link, whose text is not UTF-8: the system itself found nothing wrong
+            ErrorKind::InvalidFilename if e.raw_os_error().is_none() => {}
+            _ => {
+                tell::failure(rt, file, "not saved", &e);
+                return false;
+            }
+        },
     }
-    tell::line(file, b"not saved: it is there already");
+    tell::line(rt, file, "not saved: it is there already");
     false
 }
 
-// The name as C takes it, with a 0 behind it: a name has at most 4,095 bytes.
-fn ended(name: &[u8]) -> [u8; PATH_MAX]
-    ensures { Ended result }
+// The name of the file aside: the file's, a dot, eight letters and `.part`.
+pub fn aside(rt: &HostRuntime, file: &str) -> Result<String, AllocError>
+    ensures { IfOk result (λ name. IsAside file.now (string_bytes name)) }
 {
-    let mut path = io::buffer();
-    append(&mut path, 0, name);
-    path[4095] = 0;
-    path
-}
-
-// The name of the file aside: the file's, a dot, eight letters and `.part`. Gives its length.
-pub fn aside(file: &[u8], name: &mut [u8]) -> usize
-    ensures { IsPrefixLen result name.new }
-{
-    let drawn = letters();
-    let mut n = append(name, 0, file);
-    n = append(name, n, b".");
-    n = append(name, n, &drawn);
-    append(name, n, b".part")
+    let drawn = letters(rt);
+    let mut name = String::from_str(rt.alloc(), file)?;
+    name.push('.')?;
+    for letter in drawn {
+        name.push(char::from(letter))?;
+    }
+    name.push_str(".part")?;
+    Ok(name)
 }
 
 // Eight letters, drawn anew in each run. Without random bytes they are always the same; a name that is taken then is told, and nothing is saved.
-fn letters() -> [u8; 8] {
+fn letters(rt: &HostRuntime) -> [u8; 8]
+    ensures { AreLetters 8 result }
+{
     let mut drawn = [0u8; 8];
-    libc::getentropy(&mut drawn);
-    let mut i = 0;
-    while i < 8 {
-        drawn[i] = b'a' + drawn[i] % 26;
-        i += 1;
-    }
-    drawn
+    let _ = rt.fill_bytes(&mut drawn);
+    drawn.map(|byte| b'a' + byte % 26)
 }
 
-// Puts the bytes into the name from `at` on, as far as there is room, and gives its new length. A name that fills 4,096 bytes is too long to be a file's.
-fn append(name: &mut [u8], at: usize, bytes: &[u8]) -> usize
-    requires { at ≤ length name.old }
-    ensures { IsPrefixLen result name.new }
+// The folder in a name: what stands up to its last slash, or `.` where it has none.
+pub fn folder(file: &str) -> &str
+    ensures { IsFolder file.now result.now }
 {
-    let mut i = 0;
-    let mut k = at;
-    while i < bytes.len() && k < name.len() {
-        name[k] = bytes[i];
-        i += 1;
-        k += 1;
+    match file.rfind('/') {
+        Some(at) => &file[..at + 1],
+        None => ".",
     }
-    k
-}
-
-// How many bytes of the name are its folder's: those up to its last slash.
-pub fn folder(file: &[u8]) -> usize
-    ensures { IsPrefixLen result file.now }
-{
-    let mut n = file.len();
-    while n > 0 {
-        if file[n - 1] == b'/' {
-            break;
-        }
-        n -= 1;
-    }
-    n
 }

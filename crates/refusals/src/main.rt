@@ -1,11 +1,13 @@
 // Each refusal, tried once: 4 to 14 at the entry points, in each mode where they can come, each on a small memory of its own. A line for each: a
 // letter (h and l for calls in heap and list mode, n and m for creation), the refusal that is due, the status and the reply.
 #![tactic(auto)]
+
 use activity::Step;
 use heap_session::HeapState;
 use list_session::ListState;
 use lit::{NONE, ON};
 use session::Call;
+use std::io;
 use trail::TrailState;
 use vmtf::VmtfState;
 use vsids::VsidsState;
@@ -56,18 +58,12 @@ fn group_of<'a>(vars: &'a [u32], empty: bool) -> &'a [u32] {
 }
 
 // Prints a line.
-fn show(mode: u8, due: u32, status: u32, reply: u32) {
-    io::write_all(1, &[mode, b'\t']);
-    io::print_decimal(1, due as u64);
-    io::write_all(1, &[b'\t']);
-    io::print_decimal(1, status as u64);
-    io::write_all(1, &[b'\t']);
-    io::print_decimal(1, reply as u64);
-    io::write_all(1, &[b'\n']);
+fn show(rt: &impl Print, mode: char, due: u32, status: u32, reply: u32) -> io::Result<()> {
+    println!(rt; "{mode}\t{due}\t{status}\t{reply}")
 }
 
 // Creation in list mode.
-fn make_list(due: u32, lent: Lent) {
+fn make_list(rt: &impl Print, due: u32, lent: Lent) -> io::Result<()> {
     let lits = [1, lent.code];
     let ends = [2];
     let mut values = [2u8; 2];
@@ -97,11 +93,11 @@ fn make_list(due: u32, lent: Lent) {
         &mut counts,
         &mut indexes,
     );
-    show(b'm', due, a.status, a.reply);
+    show(rt, 'm', due, a.status, a.reply)
 }
 
 // Creation in heap mode.
-fn make_heap(due: u32, lent: Lent) {
+fn make_heap(rt: &impl Print, due: u32, lent: Lent) -> io::Result<()> {
     let lits = [1, lent.code];
     let ends = [2];
     let mut values = [2u8; 2];
@@ -129,11 +125,11 @@ fn make_heap(due: u32, lent: Lent) {
         &mut indices,
         &mut decision,
     );
-    show(b'n', due, a.status, a.reply);
+    show(rt, 'n', due, a.status, a.reply)
 }
 
 // A call in list mode.
-fn try_list(due: u32, lent: Lent, call: Call) {
+fn try_list(rt: &impl Print, due: u32, lent: Lent, call: Call) -> io::Result<()> {
     let lits = [1, lent.code];
     let ends = [2];
     let mut values = [1, lent.value];
@@ -176,11 +172,11 @@ fn try_list(due: u32, lent: Lent, call: Call) {
         &mut stamps,
         &mut order,
     );
-    show(b'l', due, a.status, a.reply);
+    show(rt, 'l', due, a.status, a.reply)
 }
 
 // A call in heap mode.
-fn try_heap(due: u32, lent: Lent, call: Call) {
+fn try_heap(rt: &impl Print, due: u32, lent: Lent, call: Call) -> io::Result<()> {
     let lits = [1, lent.code];
     let ends = [2];
     let mut values = [1, lent.value];
@@ -227,75 +223,75 @@ fn try_heap(due: u32, lent: Lent, call: Call) {
         &stamps,
         &order,
     );
-    show(b'h', due, a.status, a.reply);
+    show(rt, 'h', due, a.status, a.reply)
 }
 
 // In both modes.
-fn try_both(due: u32, lent: Lent, call: Call) {
-    try_heap(due, lent, call);
-    try_list(due, lent, call);
+fn try_both(rt: &impl Print, due: u32, lent: Lent, call: Call) -> io::Result<()> {
+    try_heap(rt, due, lent, call)?;
+    try_list(rt, due, lent, call)
 }
 
 // Creation in both modes.
-fn make_both(due: u32, lent: Lent) {
-    make_heap(due, lent);
-    make_list(due, lent);
+fn make_both(rt: &impl Print, due: u32, lent: Lent) -> io::Result<()> {
+    make_heap(rt, due, lent)?;
+    make_list(rt, due, lent)
 }
 
 // The memory that was lent: sizes, clauses and state, the first that fits.
-fn try_memory() {
+fn try_memory(rt: &impl Print) -> io::Result<()> {
     let mut many = good();
     many.vars = 2049;
-    make_both(4, many);
-    try_both(4, many, Call::Decay);
+    make_both(rt, 4, many)?;
+    try_both(rt, 4, many, Call::Decay)?;
     let mut three = good();
     three.vars = 3;
     three.code = 6;
-    make_both(5, three);
-    try_both(5, three, Call::Decay);
+    make_both(rt, 5, three)?;
+    try_both(rt, 5, three, Call::Decay)?;
     let mut stated = good();
     stated.literals = 3;
-    make_both(5, stated);
-    try_both(5, stated, Call::Decay);
+    make_both(rt, 5, stated)?;
+    try_both(rt, 5, stated, Call::Decay)?;
     let mut scratch = good();
     scratch.empty = true;
-    try_both(5, scratch, Call::Group);
-    try_both(0, scratch, Call::Decay);
+    try_both(rt, 5, scratch, Call::Group)?;
+    try_both(rt, 0, scratch, Call::Decay)?;
     let mut foreign = good();
     foreign.code = 4;
     foreign.value = 3;
-    make_both(6, foreign);
-    try_both(6, foreign, Call::Decay);
+    make_both(rt, 6, foreign)?;
+    try_both(rt, 6, foreign, Call::Decay)?;
     let mut value = good();
     value.value = 3;
-    make_both(0, value);
-    try_both(7, value, Call::Bump(2));
+    make_both(rt, 0, value)?;
+    try_both(rt, 7, value, Call::Bump(2))?;
     let mut byte = good();
     byte.switch = 2;
-    try_heap(7, byte, Call::Decay);
+    try_heap(rt, 7, byte, Call::Decay)
 }
 
 // The arguments of calls.
-fn try_arguments() {
-    try_both(8, good(), Call::Bump(2));
-    try_both(8, good(), Call::Enqueue(4, 1));
-    try_both(9, good(), Call::Decide(2));
-    try_both(10, good(), Call::Enqueue(1, 1));
-    try_both(11, good(), Call::Enqueue(0, 0));
-    try_both(11, good(), Call::LearnUnit(0));
-    try_both(12, good(), Call::SetDecay(0.25));
+fn try_arguments(rt: &impl Print) -> io::Result<()> {
+    try_both(rt, 8, good(), Call::Bump(2))?;
+    try_both(rt, 8, good(), Call::Enqueue(4, 1))?;
+    try_both(rt, 9, good(), Call::Decide(2))?;
+    try_both(rt, 10, good(), Call::Enqueue(1, 1))?;
+    try_both(rt, 11, good(), Call::Enqueue(0, 0))?;
+    try_both(rt, 11, good(), Call::LearnUnit(0))?;
+    try_both(rt, 12, good(), Call::SetDecay(0.25))
 }
 
-fn main() {
-    try_memory();
-    try_arguments();
+fn main(rt: HostRuntime) -> io::Result<()> {
+    try_memory(&rt)?;
+    try_arguments(&rt)?;
     let mut large = good();
     large.inc = 1e200;
-    try_heap(13, large, Call::Decay);
-    try_list(0, large, Call::Decay);
+    try_heap(&rt, 13, large, Call::Decay)?;
+    try_list(&rt, 0, large, Call::Decay)?;
     let mut past = good();
     past.search = NONE;
-    try_list(14, past, Call::Decide(1));
-    try_both(0, good(), Call::Decide(1));
-    try_both(0, good(), Call::Group);
+    try_list(&rt, 14, past, Call::Decide(1))?;
+    try_both(&rt, 0, good(), Call::Decide(1))?;
+    try_both(&rt, 0, good(), Call::Group)
 }

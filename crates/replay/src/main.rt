@@ -1,29 +1,33 @@
 // Sheets of the reference: runs those on standard input, each ended by a byte 0, and writes what the program prints for each, and an empty line behind it. The sheets and
 // what is expected here (`stdin`, `stdout`) are a sample of the reference in tests/reference.
 #![tactic(auto)]
-use libc::{STDIN_FILENO, STDOUT_FILENO};
+
+use lit::NONE;
+use std::io;
 
 // Runs one sheet.
-fn one(sheet: &[u8]) {
-    let mut answers = io::large_buffer();
-    let mut positions = [4294967295u32; 2048];
+fn one(rt: &impl Print, sheet: &[u8]) -> io::Result<()> {
+    let mut answers = [0u8; 65536];
+    let mut positions = [NONE; 2048];
     let k = desk::print(sheet, &mut answers, &mut positions) as usize;
-    io::write_all(STDOUT_FILENO, &answers[..k]);
-    io::write_all(STDOUT_FILENO, &[b'\n']);
+    rt.write_all(&answers[..k])?;
+    rt.write_all(b"\n")
 }
 
 // Runs one sheet after the other.
-fn all(sheets: &[u8]) {
+fn all(rt: &impl Print, sheets: &[u8]) -> io::Result<()> {
     let mut from = 0;
     while from < sheets.len() {
         let end = from + forms::text::find(&sheets[from..], 0);
-        one(&sheets[from..end]);
+        one(rt, &sheets[from..end])?;
         from = end + 1;
     }
+    Ok(())
 }
 
-fn main() {
-    let mut sheets = io::large_buffer();
-    let n = io::read_full(STDIN_FILENO, &mut sheets);
-    all(&sheets[..n]);
+fn main(rt: HostRuntime) -> io::Result<()> {
+    let mut sheets = [0u8; 65536];
+    let mut n = 0;
+    input::read_all(&mut rt.stdin(), &mut sheets, &mut n)?;
+    all(&rt, &sheets[..n])
 }

@@ -1,0 +1,2 @@
+-- Reading an input: counts of bytes at the start of a buffer.
+pub mod Counts
