@@ -1,13 +1,13 @@
 // The buffers of a run, zeros at first. The contracts give their lengths, which lending them as slices needs.
-ghost use Rattle.std.specs.Prelude.{◌≡◌, IfOk, vec_len};
+ghost use Rattle.std.specs.Prelude.{◌≡◌, IfOk, length, vec_len};
 
 use std::alloc::{AllocError, Global};
 
 // For a sheet, with a byte more, which tells that it is too long.
-pub fn sheet(alloc: Global) -> Result<Vec<u8>, AllocError>
-    ensures { IfOk result (λ buffer. 32769 ≡ vec_len buffer) }
+pub fn sheet() -> [u8; 32769]
+    ensures { 32769 ≡ length result }
 {
-    Vec::from_elem(alloc, 0, 32769)
+    [0; 32769]
 }
 
 // For the answers to any sheet: 24 bytes for each of 32,768.
@@ -18,10 +18,10 @@ pub fn answers(alloc: Global) -> Result<Vec<u8>, AllocError>
 }
 
 // For the text of any session: 80 + 41 * 2,048 + 2 * 2,048 + 5 * 8,192 bytes.
-pub fn text(alloc: Global) -> Result<Vec<u8>, AllocError>
-    ensures { IfOk result (λ buffer. 129104 ≡ vec_len buffer) }
+pub fn text() -> [u8; 129104]
+    ensures { 129104 ≡ length result }
 {
-    Vec::from_elem(alloc, 0, 129104)
+    [0; 129104]
 }
 
 // For a file: eight times the longest text, so that its refusal can be told, with a byte more, which tells that it is longer.

@@ -60,9 +60,9 @@ fn carry_new(rt: &HostRuntime, file: &str) {
 
 // Fails where there is no memory for the buffers, and then nothing is read.
 fn run_new(rt: &HostRuntime, file: &str) -> Result<(), AllocError> {
-    let mut sheet = buffers::sheet(rt.alloc())?;
+    let mut sheet = buffers::sheet();
     let mut answers = buffers::answers(rt.alloc())?;
-    let mut text = buffers::text(rt.alloc())?;
+    let mut text = buffers::text();
     let mut n = 0;
     if !reading::read_sheet(rt, &mut sheet, &mut n) {
         return Ok(());
@@ -83,9 +83,9 @@ fn carry_on(rt: &HostRuntime, file: &str) {
 // Fails as `run_new` does.
 fn run_on(rt: &HostRuntime, file: &str) -> Result<(), AllocError> {
     let mut old = buffers::old(rt.alloc())?;
-    let mut sheet = buffers::sheet(rt.alloc())?;
+    let mut sheet = buffers::sheet();
     let mut answers = buffers::answers(rt.alloc())?;
-    let mut text = buffers::text(rt.alloc())?;
+    let mut text = buffers::text();
     let mut m = 0;
     if !reading::read_file(rt, file, &mut old, &mut m) {
         return Ok(());
