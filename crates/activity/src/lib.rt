@@ -28,8 +28,6 @@ pub const MIN_DECAY: f64 = 0.5;
 
 pub const MAX_DECAY: f64 = 1.0;
 
-const SIGN_BIT: u64 = 0x8000_0000_0000_0000;
-
 // The step added by a bump, and the decay by which it grows.
 #[derive(Clone, Copy)]
 pub struct Step {
@@ -53,17 +51,14 @@ impl Step {
     {
         Step {
             inc: self.inc * (ONE / self.decay),
-            decay: self.decay,
+            ..self
         }
     }
 
     pub fn with_decay(self, d: f64) -> Step
         ensures { result ≡ spec.with_decay self d }
     {
-        Step {
-            inc: self.inc,
-            decay: d,
-        }
+        Step { decay: d, ..self }
     }
 
     pub fn scaled(self) -> Step
@@ -71,7 +66,7 @@ impl Step {
     {
         Step {
             inc: self.inc * SHRINK,
-            decay: self.decay,
+            ..self
         }
     }
 
@@ -79,8 +74,14 @@ impl Step {
     pub fn large_step(self) -> bool
         ensures { result ≡ spec.large_step self }
     {
-        let next = self.decayed();
-        next.inc > MAX_INC
+        self.decayed().inc > MAX_INC
+    }
+
+    // Whether the step is good: without sign bit, no NaN, at most 1e200, with a decay from 0.5 to 1.
+    pub fn good_step(self) -> bool
+        ensures { result ≡ spec.good_step self }
+    {
+        within(MAX_INC, self.inc) && good_decay(self.decay)
     }
 }
 
@@ -95,10 +96,8 @@ pub fn good_decay(d: f64) -> bool
 pub fn scale_all(activity: &mut [f64])
     ensures { activity.new ≡ spec.scale_all activity.old }
 {
-    let mut i = 0;
-    while i < activity.len() {
-        activity[i] = activity[i] * SHRINK;
-        i += 1;
+    for x in activity.iter_mut() {
+        *x *= SHRINK;
     }
 }
 
@@ -106,18 +105,5 @@ pub fn scale_all(activity: &mut [f64])
 pub fn within(hi: f64, x: f64) -> bool
     ensures { result ≡ spec.within hi x }
 {
-    if x <= hi {
-        f64::to_bits(x) < SIGN_BIT
-    } else {
-        false
-    }
-}
-
-// Whether the step is good: without sign bit, no NaN, at most 1e200, with a decay from 0.5 to 1.
-pub fn good_step(step: Step) -> bool
-    ensures { result ≡ spec.good_step step }
-{
-    let inc = step.inc;
-    let decay = step.decay;
-    within(MAX_INC, inc) && good_decay(decay)
+    x <= hi && x.is_sign_positive()
 }

@@ -2,31 +2,26 @@
 ghost use Rattle.std.specs.Prelude.{IfOk, string_bytes};
 ghost use Rattle.carry.specs.Names.{IsAside, IsFolder, AreLetters};
 
-use crate::tell;
+use crate::failure::Failure;
 use std::alloc::AllocError;
 use std::fs;
 use std::io::ErrorKind;
 use std::random::RandomSource;
 
-// Whether nothing has the name, not even a link that leads nowhere: reading a link follows none, and tells what is no link from what is not there. Where the name
-// is taken, or that cannot be found out, tells so.
-pub fn is_free(rt: &HostRuntime, file: &str) -> bool {
+// Whether nothing has the name, not even a link that leads nowhere: reading a link follows none, and tells what is no link from what is not there. Fails where the
+// name is taken, or where that cannot be found out.
+pub fn check_free(rt: &HostRuntime, file: &str) -> Result<(), Failure> {
     match fs::read_link(rt, file) {
-        Ok(_) => {}
+        Ok(_) => Err(Failure::Taken),
         Err(e) => match e.kind() {
-            ErrorKind::NotFound => return true,
+            ErrorKind::NotFound => Ok(()),
             // it is no link
-            ErrorKind::InvalidInput => {}
+            ErrorKind::InvalidInput => Err(Failure::Taken),
             // it is a link, whose text is not UTF-8: the system itself found nothing wrong
-            ErrorKind::InvalidFilename if e.raw_os_error().is_none() => {}
-            _ => {
-                tell::failure(rt, file, "not saved", &e);
-                return false;
-            }
+            ErrorKind::InvalidFilename if e.raw_os_error().is_none() => Err(Failure::Taken),
+            _ => Err(Failure::NotSaved(e)),
         },
     }
-    tell::line(rt, file, "not saved: it is there already");
-    false
 }
 
 // The name of the file aside: the file's, a dot, eight letters and `.part`.

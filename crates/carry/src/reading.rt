@@ -1,45 +1,28 @@
-// Reading a file or the standard input to its end.
+// Reading a file or the standard input to its end, into a buffer: how many bytes came.
+ghost use Rattle.std.specs.Prelude.{IfOk};
 ghost use Rattle.input.specs.Counts.{IsPrefixLen};
 
-use crate::tell;
+use crate::failure::Failure;
 use std::fs::File;
 
-// Reads the sheet. Where it cannot, tells so and answers false.
-pub fn read_sheet(rt: &HostRuntime, sheet: &mut [u8], n: &mut usize) -> bool
-    ensures { IsPrefixLen n.new sheet.new }
+// Reads the sheet.
+pub fn read_sheet(rt: &HostRuntime, sheet: &mut [u8]) -> Result<usize, Failure>
+    ensures { IfOk result (λ n. IsPrefixLen n sheet.new) }
 {
-    match input::read_all(&mut rt.stdin(), sheet, n) {
-        Ok(()) => true,
-        Err(e) => {
-            tell::failure(rt, "standard input", "not read", &e);
-            false
-        }
+    match input::read_all(&mut rt.stdin(), sheet) {
+        Ok(n) => Ok(n),
+        Err(cut) => Err(Failure::InputNotRead(cut.error)),
     }
 }
 
-// Reads the file, which has to leave room in the buffer. Where it cannot, tells so and answers false.
-pub fn read_file(rt: &HostRuntime, file: &str, text: &mut [u8], n: &mut usize) -> bool
-    ensures { IsPrefixLen n.new text.new }
+// Reads the file, which has to leave room in the buffer.
+pub fn read_file(rt: &HostRuntime, file: &str, text: &mut [u8]) -> Result<usize, Failure>
+    ensures { IfOk result (λ n. IsPrefixLen n text.new) }
 {
-    *n = 0;
-    let mut from = match File::open(rt, file) {
-        Ok(from) => from,
-        Err(e) => {
-            tell::failure(rt, file, "not read", &e);
-            return false;
-        }
-    };
-    if let Err(e) = input::read_all(&mut from, text, n) {
-        tell::failure(rt, file, "not read", &e);
-        return false;
+    let mut from = File::open(rt, file).map_err(Failure::FileNotRead)?;
+    match input::read_all(&mut from, text) {
+        Ok(n) if n < text.len() => Ok(n),
+        Ok(_) => Err(Failure::LongFile),
+        Err(cut) => Err(Failure::FileNotRead(cut.error)),
     }
-    if *n == text.len() {
-        tell::line(
-            rt,
-            file,
-            "not read: longer than 1,048,576 bytes, which no session of this release needs",
-        );
-        return false;
-    }
-    true
 }

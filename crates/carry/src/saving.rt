@@ -1,52 +1,47 @@
-// Saving a text in a file: it is written aside, reaches the disk, and takes the file's name. Where a step fails, that is told, the file aside is removed, and the
-// file is as it was; but what closing the file aside answers is not known: its text is on the disk by then.
-use crate::{names, tell};
+// Saving a text in a file: it is written aside, reaches the disk, and takes the file's name. Where a step fails, the file aside is removed, and the file is as it
+// was; but what closing the file aside answers is not known: its text is on the disk by then.
+use crate::failure::Failure;
+use crate::{Asked, names};
 use std::fs::{File, OpenOptions, Permissions};
 use std::io::Write;
 use std::os::unix::fs::{MetadataExt, PermissionsExt, fchown};
 use std::{fs, io};
 
 // Saves the text in the file, a new one or in place of the old one.
-pub fn save(rt: &HostRuntime, file: &str, text: &[u8], is_new: bool) {
-    match names::aside(rt, file) {
-        Ok(aside) => save_by(rt, file, aside.as_str(), text, is_new),
-        Err(e) => tell::failure(rt, file, "not saved", &io::Error::from(e)),
-    }
-}
-
-fn save_by(rt: &HostRuntime, file: &str, aside: &str, text: &[u8], is_new: bool) {
-    let made = match OpenOptions::new()
+pub fn save(rt: &HostRuntime, file: &str, text: &[u8], asked: Asked) -> Result<(), Failure> {
+    let name = names::aside(rt, file).map_err(|e| Failure::NotSaved(io::Error::from(e)))?;
+    let aside = name.as_str();
+    let made = OpenOptions::new()
         .write(true)
         .create_new(true)
         .open(rt, aside)
-    {
-        Ok(made) => made,
-        Err(e) => {
-            tell::failure(rt, file, "not saved", &e);
-            return;
+        .map_err(Failure::NotSaved)?;
+    let done = replace(rt, file, aside, made, text, asked);
+    match done {
+        Ok(()) => sync_folder(rt, file),
+        Err(_) => {
+            let _ = fs::remove_file(rt, aside);
         }
-    };
-    if fill(rt, file, made, text, is_new) && take_name(rt, file, aside, is_new) {
-        sync_folder(rt, file);
-    } else {
-        let _ = fs::remove_file(rt, aside);
     }
+    done
 }
 
-// Fills the file aside, which is new and open, and closes it. All of it has to reach the disk.
-fn fill(rt: &HostRuntime, file: &str, made: File, text: &[u8], is_new: bool) -> bool {
-    match put(rt, file, made, text, is_new) {
-        Ok(()) => true,
-        Err(e) => {
-            tell::failure(rt, file, "not saved", &e);
-            false
-        }
-    }
+// Fills the file aside, which is new and open, and closes it; then it takes the file's name.
+fn replace(
+    rt: &HostRuntime,
+    file: &str,
+    aside: &str,
+    made: File,
+    text: &[u8],
+    asked: Asked,
+) -> Result<(), Failure> {
+    fill(rt, file, made, text, asked).map_err(Failure::NotSaved)?;
+    take_name(rt, file, aside, asked)
 }
 
 // Gives the file aside the text, and before it the permissions of the old file, where there is one, and waits until all of it has reached the disk.
-fn put(rt: &HostRuntime, file: &str, mut made: File, text: &[u8], is_new: bool) -> io::Result<()> {
-    if !is_new {
+fn fill(rt: &HostRuntime, file: &str, mut made: File, text: &[u8], asked: Asked) -> io::Result<()> {
+    if asked == Asked::On {
         allow_as(rt, file, &made)?;
     }
     made.write_all(text)?;
@@ -64,17 +59,11 @@ fn allow_as(rt: &HostRuntime, file: &str, made: &File) -> io::Result<()> {
 }
 
 // Gives the file aside the file's name. For a new file the name has to be free still; no call of std looks and renames at once.
-fn take_name(rt: &HostRuntime, file: &str, aside: &str, is_new: bool) -> bool {
-    if is_new && !names::is_free(rt, file) {
-        return false;
+fn take_name(rt: &HostRuntime, file: &str, aside: &str, asked: Asked) -> Result<(), Failure> {
+    if asked == Asked::New {
+        names::check_free(rt, file)?;
     }
-    match fs::rename(rt, aside, file) {
-        Ok(()) => true,
-        Err(e) => {
-            tell::failure(rt, file, "not saved", &e);
-            false
-        }
-    }
+    fs::rename(rt, aside, file).map_err(Failure::NotSaved)
 }
 
 // Asks that the name reaches the disk too. The file is whole whether it does or not.

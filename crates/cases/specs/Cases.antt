@@ -1,9 +1,8 @@
 -- Cases A to L of document 01 in its order, and its worked sheet. Each is an instance of one claim, `Holds`, and is computed.
-use Rattle.std.specs.Prelude.{ℕ, ◌≡◌, refl, [], ◌∷◌, map}
+use Rattle.std.specs.Prelude.{ℕ, ◌≡◌, refl, [], ◌∷◌, Ok, map}
 use Rattle.lit.specs.Numbers.{NONE, switched_on, switched_off}
 use Rattle.formula.specs.declared.checks.SatResult.TheVariants.{Err, Sat, Unsat}
-use Rattle.formula.specs.declared.checks.Checked.TheVariants.{Answer}
-use Rattle.formula.specs.Checks.{sat_number, checked_numbers}
+use Rattle.formula.specs.Checks.{sat_number, numbers_of, checked_numbers}
 use Rattle.vsids.specs.Vsids.{Vsids}
 use Rattle.vmtf.specs.Vmtf.{count_lits}
 use Rattle.book.specs.Calls.{bump, decay, set_decay, switch_off, decide, learn_unit, go_back, group}
@@ -187,15 +186,15 @@ both_polarities = formula 1 ((0 ∷ 1 ∷ []) ∷ [])
 pub case_L : Holds formula_check (record {
   start = formula_check.fresh;
   calls = no_clauses ∷ no_variables ∷ empty_then_out ∷ out_then_empty ∷ both_polarities ∷ [];
-  answers = Answer Sat ∷ Answer Err ∷ Answer Unsat ∷ Answer Err ∷ Answer Err ∷ [];
+  answers = Ok Sat ∷ Ok Err ∷ Ok Unsat ∷ Ok Err ∷ Ok Err ∷ [];
   end = formula_check.fresh;
 })
 unfolding definitions
 case_L = (refl, refl)
 
 -- these answers in numbers, each with status 0
-pub case_L_numbers : map checked_numbers (Answer Sat ∷ Answer Err ∷ Answer Unsat ∷ Answer Err ∷ Answer Err ∷ []) ≡ (0, 1) ∷ (0, 0) ∷ (0, 2) ∷ (0, 0) ∷ (0, 0) ∷ []
-unfolding checked_numbers sat_number
+pub case_L_numbers : map checked_numbers (Ok Sat ∷ Ok Err ∷ Ok Unsat ∷ Ok Err ∷ Ok Err ∷ []) ≡ (0, 1) ∷ (0, 0) ∷ (0, 2) ∷ (0, 0) ∷ (0, 0) ∷ []
+unfolding numbers_of sat_number
 case_L_numbers = refl
 
 -- The worked sheet, from `b|2` on, with its clause `c|1|3`: lines 3 to 8 answer -, 2, 0, 1, 1, 2. At the end all three variables are

@@ -4,7 +4,7 @@ use Rattle.laws.specs.Every.{every}
 use Rattle.laws.specs.InPlace.{up_to}
 use Rattle.util.specs.SortReverse.{pick, greatest, sort_from, sort_reverse}
 use Rattle.formula.specs.Clauses.{no_fall_at, ends_ok, list_ok, var_below, vars_below, clauses_ok, clauses_from}
-use Rattle.formula.specs.Checks.{differ, new_at, no_duplicates, check_clause_invariant, check_each, check_formula_invariant, list_refusal, check_formula_invariant_call}
+use Rattle.formula.specs.Checks.{differ, new_at, no_duplicates, check_clause_invariant, check_each, check_formula_invariant, check_vars, check_counts, check_formula_invariant_call}
 use Rattle.activity.specs.Step.{upright, within}
 use Rattle.trail.specs.Trail.{fresh_trail, enq_assignment, enq_decision, backstep, backsteps, close_levels, rewind, backtrack_to, undone, backtrack_safe}
 use Rattle.lit.specs.Unused.{unused_ok}
@@ -21,7 +21,7 @@ use Rattle.cases.specs.States.{put}
 
 -- the clause list and the formula check
 unfoldable pub formulas : Unit {0}
-unfolding codes ends_from every no_fall_at ends_ok list_ok var_below vars_below clauses_ok clauses_from differ new_at no_duplicates check_clause_invariant check_each check_formula_invariant list_refusal check_formula_invariant_call
+unfolding codes ends_from every no_fall_at ends_ok list_ok var_below vars_below clauses_ok clauses_from differ new_at no_duplicates check_clause_invariant check_each check_formula_invariant check_vars check_counts check_formula_invariant_call
 formulas = tt
 
 -- the calls of a session, and its trail with the check of it

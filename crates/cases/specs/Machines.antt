@@ -1,7 +1,8 @@
 -- What the cases are of: a session in heap mode, a session in list mode, and the formula check.
-use Rattle.std.specs.Prelude.{ℕ, ◌+◌, Bool, true, ◌&&◌, List, [], ◌∷◌, ◌++◌, length}
+use Rattle.std.specs.Prelude.{ℕ, ◌+◌, Bool, true, ◌&&◌, List, [], ◌∷◌, ◌++◌, Result, length}
 use Rattle.std.proofs.Math.Option.{Option, none, some}
-use Rattle.formula.specs.declared.checks.Checked.{Checked}
+use Rattle.lit.specs.declared.Refusal.{Refusal}
+use Rattle.formula.specs.declared.checks.SatResult.{SatResult}
 use Rattle.formula.specs.Clauses.{clauses_ok}
 use Rattle.formula.specs.Checks.{check_formula_invariant_call}
 use Rattle.trail_check.specs.Check.{trail_ok}
@@ -73,14 +74,14 @@ pub record Formula : Type 0 where
   pub n : ℕ
   pub clauses : Clauses
 
-abbrev pub check : Formula → Checked
+abbrev pub check : Formula → Result SatResult Refusal
 check f = check_formula_invariant_call f.n (codes f.clauses) (ends f.clauses) (length (codes f.clauses)) (length (ends f.clauses))
 
 abbrev pub formula_check : Machine
 formula_check = record {
   State = Unit {0};
   Call = Formula;
-  Answer = Checked;
+  Answer = Result SatResult Refusal;
   fresh = tt;
   good = λ s. true;
   step = λ s f. (check f, s);

@@ -6,9 +6,7 @@ use Rattle.std.proofs.Common.{arith, ltb-true, length-set}
 use Rattle.std.proofs.lemmas.List.{length-replicate}
 use Rattle.laws.specs.Tests.{and_left, and_right}
 use Rattle.lit.specs.Numbers.{NONE, unassigned}
-use Rattle.vmtf.specs.declared.Next.TheVariants as found
-use Rattle.vmtf.specs.declared.Next as code
-use Rattle.vmtf.specs.Vmtf.{Vmtf, vmtf_of, lit_order, Vars}
+use Rattle.vmtf.specs.Vmtf.{Vmtf, lit_order, Vars, Found}
 use Rattle.vmtf.specs.Vmtf as vmtf
 use Rattle.vmtf.specs.Good.{GoodList}
 use Rattle.vmtf.specs.Moves.{group_good}
@@ -24,14 +22,14 @@ tune (bump_reason_literals r) l = some l
 tune (bump_vec_of_vars vs) l = some (vmtf.bump_vec_of_vars vs l)
 
 -- what `get_next` says, with the list that it leaves
-abbrev pub next_of : Vmtf → code.Next → Next Vmtf
-next_of l (found.Chose s v) = chose v (vmtf_of l.next l.prev l.ts s)
-next_of l found.Nothing = nothing l
-next_of l found.Stuck = stuck
+abbrev pub next_of : Found → Next Vmtf
+next_of (vmtf.chose v l) = chose v l
+next_of (vmtf.nothing l) = nothing l
+next_of vmtf.stuck = stuck
 
 -- for n variables and the literals of all clauses
 abbrev pub list_ops : ℕ → List ℕ → Operations
-list_ops n lits = record { State = Vmtf; switches = false; start = vmtf.new n lits; tune = tune; insert = vmtf.insert; offer = vmtf.insert; turn_off = λ v l. l; get_next = λ values l. next_of l (vmtf.get_next values l) }
+list_ops n lits = record { State = Vmtf; switches = false; start = vmtf.new n lits; tune = tune; insert = vmtf.insert; offer = vmtf.insert; turn_off = λ v l. l; get_next = λ values l. next_of (vmtf.get_next values l) }
 
 -- the list is good, in some order, and every variable counts
 pub record ListOk (n : ℕ) (values : List ℕ) (on : ℕ → Bool) (l : Vmtf) : Type 0 where
@@ -48,10 +46,10 @@ below_each n (x ∷ vs) e zero h = ltb-true x n (and_left (ltb x n) (below n vs)
 below_each n (x ∷ vs) e (suc i) h = below_each n vs (and_right (ltb x n) (below n vs) e) i (omega arith)
 
 next_ok : (n : ℕ) (values : List ℕ) (on : ℕ → Bool) (order : List ℕ) (l : Vmtf) → length values ≡ n → ((v : ℕ) → on v ≡ true) → GoodList n order l
-    → (r : code.Next) → NextIs n order values l r → NextRight n values on (ListOk n) (next_of l r)
-next_ok n values on order l long all g (found.Chose s v) h = (h.0, all v, h.1, λ p q. record { values_long = simp length-set long; all_on = all; order = _; good = h.2 })
-next_ok n values on order l long all g found.Nothing h = ((λ v b _. h v b), record { values_long = long; all_on = all; order = _; good = g })
-next_ok n values on order l long all g found.Stuck h = λ settled. h (λ v b. settled v b (all v))
+    → (r : Found) → NextIs n order values l r → NextRight n values on (ListOk n) (next_of r)
+next_ok n values on order l long all g (vmtf.chose v m) h = (h.0, all v, h.1, λ p q. record { values_long = simp length-set long; all_on = all; order = _; good = h.2.0 })
+next_ok n values on order l long all g (vmtf.nothing m) h = ((λ v b _. h.1 v b), record { values_long = long; all_on = all; order = order; good = rw h.0 g })
+next_ok n values on order l long all g vmtf.stuck h = λ settled. h (λ v b. settled v b (all v))
 
 pub list_chooser : (n m : ℕ) (lits : List ℕ) → n ≤ NONE → Chooser n m (list_ops n lits)
 unfolding fits

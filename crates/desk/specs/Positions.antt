@@ -1,13 +1,12 @@
 -- The lent positions at the end of a run: those at the front that it may have used are left open, and every other is as it was. Assumes nothing.
-use Rattle.std.specs.Prelude.{ℕ, ◌≤◌, ◌≡◌, refl, Bool, true, ◌&&◌, cond, List, [], ◌∷◌, ◌++◌, leb, length, take, drop}
-use Rattle.std.proofs.Common.{ap, ◌∙◌, arith, le-leb, length-take-le, drop_at}
+use Rattle.std.specs.Prelude.{ℕ, ◌≤◌, ◌≡◌, refl, ◌&&◌, cond, List, [], ◌∷◌, ◌++◌, leb, length, take, drop}
+use Rattle.std.proofs.Common.{◌∙◌, arith, le-leb, length-take-le, drop_at}
 use Rattle.std.proofs.Math.Option.{Option, none, some}
 use Rattle.laws.specs.Parts.{rejoined}
 use Rattle.laws.specs.Tests.{and_both}
 use Rattle.lit.specs.Numbers.{max_vars}
 use Rattle.book.specs.Session.{Result, done, refuse}
 use Rattle.forms.specs.Forms.{Mode, vsids, vmtf, Opening, first_in}
-use Rattle.sheet.specs.Opening.{mode_of}
 
 -- how many positions a session over n variables needs
 abbrev pub needed : Mode → ℕ → ℕ
@@ -44,6 +43,6 @@ used-front o {k} l p few e lent same =
     let test = and_both (le-leb o.vars max_vars few) (rw e at (le-leb k (length l) lent)) in
     rw test (record { long = rejoined k l p same; same = rw (← e) (drop_at p (drop k l) k (same ∙ length-take-le k l lent)) })
 
--- in heap mode those are one for each variable
-pub front_enough : {heap : Bool} {n k : ℕ} (l : List ℕ) → k ≡ needed (mode_of heap) n → k ≤ length l → heap ≡ true → n ≤ length (take k l)
-front_enough {n = n} {k = k} l e lent h = omega (arith, length-take-le k l lent, e ∙ ap (λ (b : Bool). needed (mode_of b) n) h)
+-- those are as many as the session needs
+pub front_enough : (o : Opening) {k : ℕ} (l : List ℕ) → k ≡ needed o.mode o.vars → k ≤ length l → needed o.mode o.vars ≤ length (take k l)
+front_enough o {k} l e lent = omega (arith, length-take-le k l lent, e)

@@ -1,5 +1,5 @@
 // The lines of a call sheet behind the first: the clause lines, then the session's, in the mode that the first line names.
-ghost use Rattle.std.specs.Prelude.{◌≡◌, true, false, [], ◌≤◌, length};
+ghost use Rattle.std.specs.Prelude.{◌≡◌, false, ℕ, [], ◌+◌, ◌*◌, ◌≤◌, length};
 ghost use Rattle.std.proofs.Math.Option.{some};
 ghost use Rattle.lit.specs.Numbers as number;
 ghost use Rattle.formula.specs.Good.{GoodClauses};
@@ -9,38 +9,39 @@ ghost use Rattle.sheet.specs.Opening.{mode_of, opening_at};
 ghost use Rattle.desk.specs.Memory.{short, few_vars};
 ghost use Rattle.desk.specs.Positions.{needed, used_by, SameFrom};
 
+use forms::{Mode, Opening};
+use formula::Clauses;
 use lit::{MAX_CLAUSES, MAX_LITERALS, MAX_VARS, NONE};
 use sheet::Place;
 use sheet::clauses::{Section, clause_lines, next_is_clause};
 
-// The session's lines, in heap or in list mode.
+// The session's lines.
 fn session_lines(
     sheet: &[u8],
     out: &mut [u8],
     positions: &mut [u32],
-    heap: bool,
-    n: u32,
-    lits: &[u32],
-    ends: &[u32],
+    o: Opening,
+    list: Clauses<'_>,
     p: Place,
 ) -> usize
-    requires { Room sheet.now p out.old × (n ≤ number.max_vars) × GoodClauses n lits.now ends.now × (heap ≡ true → n ≤ length positions.old) }
-    ensures { Ended sheet.now p (opened (mode_of heap) n lits.now ends.now) out.old result out.new }
+    requires room { Room sheet.now p out.old × (o.vars ≤ number.max_vars) × GoodClauses o.vars list.lits.now list.ends.now }
+    requires positions { needed (mode_of o.mode) o.vars ≤ length positions.old }
+    ensures { Ended sheet.now p (opened (mode_of o.mode) o.vars list.entry.lits.now list.entry.ends.now) out.old result out.new }
 {
-    if heap {
-        return heap_sheet::answer_lines(sheet, out, positions, n, lits, ends, p);
+    match o.mode {
+        Mode::Heap => heap_sheet::answer_lines(sheet, out, positions, o.vars, list, p),
+        Mode::List => list_sheet::answer_lines(sheet, out, o.vars, list, p),
     }
-    list_sheet::answer_lines(sheet, out, n, lits, ends, p)
 }
 
-// How many variables are few in heap mode, and in list mode.
-fn few_vars(heap: bool) -> u32
-    ensures { result ≡ few_vars heap }
+// How many variables are few in a mode.
+fn few_vars(mode: Mode) -> usize
+    ensures { result ≡ few_vars mode }
 {
-    if heap {
-        return heap_sheet::FEW;
+    match mode {
+        Mode::Heap => heap_sheet::FEW,
+        Mode::List => list_sheet::FEW,
     }
-    list_sheet::FEW
 }
 
 // The same with few variables. The shortest runs have this way to themselves, with none of the long arrays of a session.
@@ -48,19 +49,18 @@ fn few_lines(
     sheet: &[u8],
     out: &mut [u8],
     positions: &mut [u32],
-    heap: bool,
-    n: u32,
-    lits: &[u32],
-    ends: &[u32],
+    o: Opening,
+    list: Clauses<'_>,
     p: Place,
 ) -> usize
-    requires { Room sheet.now p out.old × (n ≤ few_vars heap) × GoodClauses n lits.now ends.now × (heap ≡ true → n ≤ length positions.old) }
-    ensures { Ended sheet.now p (opened (mode_of heap) n lits.now ends.now) out.old result out.new }
+    requires room { Room sheet.now p out.old × (o.vars ≤ few_vars o.mode) × GoodClauses o.vars list.lits.now list.ends.now }
+    requires positions { needed (mode_of o.mode) o.vars ≤ length positions.old }
+    ensures { Ended sheet.now p (opened (mode_of o.mode) o.vars list.entry.lits.now list.entry.ends.now) out.old result out.new }
 {
-    if heap {
-        return heap_sheet::answer_few(sheet, out, positions, n, lits, ends, p);
+    match o.mode {
+        Mode::Heap => heap_sheet::answer_few(sheet, out, positions, o.vars, list, p),
+        Mode::List => list_sheet::answer_few(sheet, out, o.vars, list, p),
     }
-    list_sheet::answer_few(sheet, out, n, lits, ends, p)
 }
 
 // The clause lines, with slices for their clauses, then the session's.
@@ -68,20 +68,20 @@ fn clauses_with(
     sheet: &[u8],
     out: &mut [u8],
     positions: &mut [u32],
-    heap: bool,
-    n: u32,
+    o: Opening,
     lits: &mut [u32],
     ends: &mut [u32],
     p: Place,
 ) -> usize
-    requires room { Room sheet.now p out.old × (n ≤ number.max_vars) × (heap ≡ true → n ≤ length positions.old) }
+    requires room { Room sheet.now p out.old × (o.vars ≤ number.max_vars) }
+    requires positions { needed (mode_of o.mode) o.vars ≤ length positions.old }
     requires holds { Holds sheet.now lits.old ends.old × (length lits.old ≤ number.max_literals) }
-    ensures { Ended sheet.now p (reading (mode_of heap) n [] []) out.old result out.new }
+    ensures { Ended sheet.now p (reading (mode_of o.mode) o.vars [] []) out.old result out.new }
 {
     let s = clause_lines(
         sheet,
         out,
-        n,
+        o.vars,
         lits,
         ends,
         Section {
@@ -90,31 +90,34 @@ fn clauses_with(
             clauses: 0,
         },
     );
-    let literals = s.literals as usize;
-    let clauses = s.clauses as usize;
-    let q = s.place;
-    if n <= few_vars(heap) {
-        return few_lines(
-            sheet,
-            out,
-            positions,
-            heap,
-            n,
-            &lits[..literals],
-            &ends[..clauses],
-            q,
-        );
+    let list = Clauses {
+        lits: &lits[..s.literals as usize],
+        ends: &ends[..s.clauses as usize],
+    };
+    if o.vars as usize <= few_vars(o.mode) {
+        return few_lines(sheet, out, positions, o, list, s.place);
     }
-    session_lines(
-        sheet,
-        out,
-        positions,
-        heap,
-        n,
-        &lits[..literals],
-        &ends[..clauses],
-        q,
-    )
+    session_lines(sheet, out, positions, o, list, s.place)
+}
+
+// The same with room for so many literals and clauses.
+fn clauses_in<const LITERALS: usize, const CLAUSES: usize>(
+    sheet: &[u8],
+    out: &mut [u8],
+    positions: &mut [u32],
+    o: Opening,
+    p: Place,
+) -> usize
+    requires sizes { (LITERALS ≤ number.max_literals) × (CLAUSES ≤ number.max_clauses) }
+    requires room { Room sheet.now p out.old × (o.vars ≤ number.max_vars) }
+    requires positions { needed (mode_of o.mode) o.vars ≤ length positions.old }
+    requires literals { (k : ℕ) → k ≤ number.max_literals → 2 * k ≤ length sheet.now → k ≤ LITERALS }
+    requires clauses { (k : ℕ) → k ≤ number.max_clauses → 2 * k ≤ length sheet.now → k ≤ CLAUSES }
+    ensures { Ended sheet.now p (reading (mode_of o.mode) o.vars [] []) out.old result out.new }
+{
+    let mut lits = [0u32; LITERALS];
+    let mut ends = [0u32; CLAUSES];
+    clauses_with(sheet, out, positions, o, &mut lits, &mut ends, p)
 }
 
 // The lines behind the first where no clause line comes next: the session's. The slices for clauses are not set up.
@@ -122,101 +125,94 @@ fn without_clauses(
     sheet: &[u8],
     out: &mut [u8],
     positions: &mut [u32],
-    heap: bool,
-    n: u32,
+    o: Opening,
     p: Place,
 ) -> usize
-    requires room { Room sheet.now p out.old × (n ≤ number.max_vars) × (heap ≡ true → n ≤ length positions.old) }
+    requires room { Room sheet.now p out.old × (o.vars ≤ number.max_vars) }
+    requires positions { needed (mode_of o.mode) o.vars ≤ length positions.old }
     requires from_value { next_clause (lines_from sheet.now p.from) ≡ false }
-    ensures { Ended sheet.now p (reading (mode_of heap) n [] []) out.old result out.new }
+    ensures { Ended sheet.now p (reading (mode_of o.mode) o.vars [] []) out.old result out.new }
 {
-    let none = [0u32; 0];
-    if n <= few_vars(heap) {
-        return few_lines(sheet, out, positions, heap, n, &none, &none, p);
+    let none = Clauses {
+        lits: &[],
+        ends: &[],
+    };
+    if o.vars as usize <= few_vars(o.mode) {
+        return few_lines(sheet, out, positions, o, none, p);
     }
-    session_lines(sheet, out, positions, heap, n, &none, &none, p)
+    session_lines(sheet, out, positions, o, none, p)
 }
 
-// The lines behind the first, in heap or in list mode.
-fn sheet_lines(
-    sheet: &[u8],
-    out: &mut [u8],
-    positions: &mut [u32],
-    heap: bool,
-    n: u32,
-    p: Place,
-) -> usize
-    requires { Room sheet.now p out.old × (n ≤ number.max_vars) × (heap ≡ true → n ≤ length positions.old) }
-    ensures { Ended sheet.now p (reading (mode_of heap) n [] []) out.old result out.new }
+// Room for the clauses of any sheet.
+const ALL_LITERALS: usize = MAX_LITERALS as usize;
+
+const ALL_CLAUSES: usize = MAX_CLAUSES as usize;
+
+// The lines behind the first.
+fn sheet_lines(sheet: &[u8], out: &mut [u8], positions: &mut [u32], o: Opening, p: Place) -> usize
+    requires room { Room sheet.now p out.old × (o.vars ≤ number.max_vars) }
+    requires positions { needed (mode_of o.mode) o.vars ≤ length positions.old }
+    ensures { Ended sheet.now p (reading (mode_of o.mode) o.vars [] []) out.old result out.new }
 {
     if next_is_clause(sheet, p) {
-        let mut lits = [0u32; MAX_LITERALS as usize];
-        let mut ends = [0u32; MAX_CLAUSES as usize];
-        return clauses_with(sheet, out, positions, heap, n, &mut lits, &mut ends, p);
+        return clauses_in::<ALL_LITERALS, ALL_CLAUSES>(sheet, out, positions, o, p);
     }
-    without_clauses(sheet, out, positions, heap, n, p)
+    without_clauses(sheet, out, positions, o, p)
 }
 
 // A short sheet has at most so many bytes, and a tiny one. A literal takes two at least, and so does a clause line.
 const SHORT: usize = 1024;
 
+const SHORT_CLAUSES: usize = SHORT / 2;
+
 const TINY: usize = 128;
 
+const TINY_CLAUSES: usize = TINY / 2;
+
 // The same on a short sheet, which has this way to itself, with none of the long slices for clauses.
-fn short_lines(
-    sheet: &[u8],
-    out: &mut [u8],
-    positions: &mut [u32],
-    heap: bool,
-    n: u32,
-    p: Place,
-) -> usize
-    requires { Room sheet.now p out.old × (n ≤ number.max_vars) × (heap ≡ true → n ≤ length positions.old) × (length sheet.now ≤ short) }
-    ensures { Ended sheet.now p (reading (mode_of heap) n [] []) out.old result out.new }
+fn short_lines(sheet: &[u8], out: &mut [u8], positions: &mut [u32], o: Opening, p: Place) -> usize
+    requires room { Room sheet.now p out.old × (o.vars ≤ number.max_vars) × (length sheet.now ≤ short) }
+    requires positions { needed (mode_of o.mode) o.vars ≤ length positions.old }
+    ensures { Ended sheet.now p (reading (mode_of o.mode) o.vars [] []) out.old result out.new }
 {
-    if next_is_clause(sheet, p) {
-        if sheet.len() <= TINY {
-            let mut lits = [0u32; TINY / 2];
-            let mut ends = [0u32; TINY / 2];
-            return clauses_with(sheet, out, positions, heap, n, &mut lits, &mut ends, p);
-        }
-        let mut lits = [0u32; SHORT / 2];
-        let mut ends = [0u32; SHORT / 2];
-        return clauses_with(sheet, out, positions, heap, n, &mut lits, &mut ends, p);
+    if !next_is_clause(sheet, p) {
+        return without_clauses(sheet, out, positions, o, p);
     }
-    without_clauses(sheet, out, positions, heap, n, p)
+    if sheet.len() <= TINY {
+        return clauses_in::<TINY_CLAUSES, TINY_CLAUSES>(sheet, out, positions, o, p);
+    }
+    clauses_in::<SHORT_CLAUSES, SHORT_CLAUSES>(sheet, out, positions, o, p)
 }
 
-// How many variables the shorter arrays of positions have room for.
-const LEAST: u32 = 128;
+// How many variables the shorter arrays of positions have room for, and the longest.
+const LEAST: usize = 128;
 
-const FEW: u32 = 384;
+const FEW: usize = 384;
+
+const ALL: usize = MAX_VARS as usize;
 
 // The lines behind the first, on positions set up for them: few for few variables on a short sheet.
-fn own_positions(sheet: &[u8], out: &mut [u8], heap: bool, n: u32, p: Place) -> usize
-    requires { Room sheet.now p out.old × (n ≤ number.max_vars) }
-    ensures { Ended sheet.now p (reading (mode_of heap) n [] []) out.old result out.new }
+fn own_positions(sheet: &[u8], out: &mut [u8], o: Opening, p: Place) -> usize
+    requires { Room sheet.now p out.old × (o.vars ≤ number.max_vars) }
+    ensures { Ended sheet.now p (reading (mode_of o.mode) o.vars [] []) out.old result out.new }
 {
-    if n <= LEAST && sheet.len() <= SHORT {
-        let mut least = [NONE; LEAST as usize];
-        return short_lines(sheet, out, &mut least, heap, n, p);
+    if o.vars as usize <= LEAST && sheet.len() <= SHORT {
+        return short_lines(sheet, out, &mut [NONE; LEAST], o, p);
     }
-    if n <= FEW && sheet.len() <= SHORT {
-        let mut few = [NONE; FEW as usize];
-        return short_lines(sheet, out, &mut few, heap, n, p);
+    if o.vars as usize <= FEW && sheet.len() <= SHORT {
+        return short_lines(sheet, out, &mut [NONE; FEW], o, p);
     }
-    let mut all = [NONE; MAX_VARS as usize];
-    sheet_lines(sheet, out, &mut all, heap, n, p)
+    sheet_lines(sheet, out, &mut [NONE; ALL], o, p)
 }
 
 // How many positions a session needs: one for each variable in heap mode, none in list mode.
-fn positions_needed(heap: bool, n: u32) -> usize
-    ensures { result ≡ needed (mode_of heap) n }
+fn positions_needed(o: Opening) -> usize
+    ensures { result ≡ needed (mode_of o.mode) o.vars }
 {
-    if heap {
-        return n as usize;
+    match o.mode {
+        Mode::Heap => o.vars as usize,
+        Mode::List => 0,
     }
-    0
 }
 
 // The lines behind the first, on those of the lent positions that the session needs, or on positions set up for them where they are too few.
@@ -224,20 +220,19 @@ pub fn with_positions(
     sheet: &[u8],
     out: &mut [u8],
     positions: &mut [u32],
-    heap: bool,
-    n: u32,
+    o: Opening,
     p: Place,
 ) -> usize
-    requires { Room sheet.now p out.old × (n ≤ number.max_vars) }
-    ensures ended { Ended sheet.now p (reading (mode_of heap) n [] []) out.old result out.new }
-    ensures same_from { SameFrom (used_by (some (opening_at heap n)) (length positions.old)) positions.old positions.new }
+    requires { Room sheet.now p out.old × (o.vars ≤ number.max_vars) }
+    ensures ended { Ended sheet.now p (reading (mode_of o.mode) o.vars [] []) out.old result out.new }
+    ensures same_from { SameFrom (used_by (some (opening_at o.mode o.vars)) (length positions.old)) positions.old positions.new }
 {
-    let k = positions_needed(heap, n);
+    let k = positions_needed(o);
     if k > positions.len() {
-        return own_positions(sheet, out, heap, n, p);
+        return own_positions(sheet, out, o, p);
     }
     if sheet.len() <= SHORT {
-        return short_lines(sheet, out, &mut positions[..k], heap, n, p);
+        return short_lines(sheet, out, &mut positions[..k], o, p);
     }
-    sheet_lines(sheet, out, &mut positions[..k], heap, n, p)
+    sheet_lines(sheet, out, &mut positions[..k], o, p)
 }

@@ -9,9 +9,9 @@ ghost use Rattle.sheet.specs.Running.{lines_from, line_length, Room};
 ghost use Rattle.sheet.specs.Opening.{opening_at, at_first};
 ghost use Rattle.desk.specs.Positions.{used_by, used_on, SameFrom};
 
-use forms::First;
+use forms::Opening;
 use forms::text::NEWLINE;
-use lit::{BAD_LINE, MANY_VARS, MAX_VARS, NONE};
+use lit::{MAX_VARS, Refusal};
 use sheet::{Place, answer, behind};
 
 // Answers a first line that has its form and ends at `end`: refusal 4, or the session with the lines behind it.
@@ -21,17 +21,16 @@ fn open(
     positions: &mut [u32],
     count: u32,
     end: usize,
-    heap: bool,
-    n: u32,
+    o: Opening,
 ) -> usize
     requires { Room sheet.now (at_first count) out.old × (0 < count) × (end ≡ line_length sheet.now 0) }
-    ensures wrote { Wrote 0 (started (opening (some (opening_at heap n))) (lines_from sheet.now (end + 1))) out.old out.new result }
-    ensures same_from { SameFrom (used_by (some (opening_at heap n)) (length positions.old)) positions.old positions.new }
+    ensures wrote { Wrote 0 (started (opening (some (opening_at o.mode o.vars))) (lines_from sheet.now (end + 1))) out.old out.new result }
+    ensures same_from { SameFrom (used_by (some (opening_at o.mode o.vars)) (length positions.old)) positions.old positions.new }
 {
-    if n > MAX_VARS {
-        return answer(out, 0, 1, MANY_VARS, NONE);
+    if o.vars > MAX_VARS {
+        return answer(out, 0, 1, Err(Refusal::ManyVars));
     }
-    let at = answer(out, 0, 1, 0, NONE);
+    let at = answer(out, 0, 1, Ok(None));
     let first = Place {
         from: 0,
         left: count,
@@ -39,7 +38,7 @@ fn open(
         at: 0,
     };
     let p = behind(first, end, at);
-    crate::memory::with_positions(sheet, out, positions, heap, n, p)
+    crate::memory::with_positions(sheet, out, positions, o, p)
 }
 
 // Answers a sheet of so many lines, and gives the count of bytes.
@@ -50,8 +49,7 @@ pub fn answer_all(sheet: &[u8], out: &mut [u8], positions: &mut [u32], count: u3
 {
     let end = forms::text::find(sheet, NEWLINE);
     match forms::read_first(&sheet[..end]) {
-        First::Bad => answer(out, 0, 1, BAD_LINE, NONE),
-        First::Heap(n) => open(sheet, out, positions, count, end, true, n),
-        First::List(n) => open(sheet, out, positions, count, end, false, n),
+        None => answer(out, 0, 1, Err(Refusal::BadLine)),
+        Some(o) => open(sheet, out, positions, count, end, o),
     }
 }

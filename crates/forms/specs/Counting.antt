@@ -1,5 +1,5 @@
 -- Counting whole numbers parted by tabs, from the front: what is left still decides. The laws that the loop cites. Assumes nothing.
-use Rattle.std.specs.Prelude.{◌≡◌, ℕ, ◌+◌, ◌<◌, ◌≤◌, List, [], ◌∷◌, ◌++◌, length, take, drop, slice_set, refl}
+use Rattle.std.specs.Prelude.{◌≡◌, ℕ, ◌+◌, ◌<◌, ◌≤◌, List, [], ◌∷◌, ◌++◌, length, take, drop, slice_set, Some, None, refl}
 use Rattle.std.proofs.Common.{sym, ap, ◌∙◌, arith, add-one, length-append, length-drop, length-set, take-suc-set, drop-drop}
 use Rattle.std.proofs.Math.Option.{Option, none, some}
 use Rattle.std.proofs.Math.Seq.{append_snoc}
@@ -7,7 +7,6 @@ use Rattle.forms.specs.Text.{tab, find, fields, number}
 use Rattle.forms.specs.Forms.{given, numbers}
 use Rattle.forms.specs.Laws.{numbers_last, numbers_found, numbers_bad}
 use Rattle.forms.specs.Read.{Counted}
-use Rattle.forms.specs.declared.Count.TheVariants as a-count
 
 -- The numbers before `at` were read, n of them, and stand in out as far as it has room; those from there on follow.
 pub record SoFar (bytes out : List ℕ) (n at : ℕ) : Type 0 where
@@ -37,8 +36,8 @@ module _ (bytes out : List ℕ) where
     abbrev end : ℕ
     end = find tab left
 
-    pub count_bad : number (take end left) ≡ none → Counted (numbers (fields bytes)) a-count.Bad out
-    count_bad e = rw (s.rest, numbers_bad left e)
+    pub count_none : number (take end left) ≡ none → Counted (numbers (fields bytes)) None out
+    count_none e = rw (s.rest, numbers_bad left e)
 
     module _ (v : ℕ) (e : number (take end left) ≡ some v) where
       one_more : length (s.done ++ (v ∷ [])) ≡ n + 1
@@ -49,7 +48,7 @@ module _ (bytes out : List ℕ) where
           let l : n < length out = omega (arith, length-set out n v) in
           rw (add-one, take-suc-set out n v l, s.held (omega arith))
 
-      pub count_last : end ≡ length left → Counted (numbers (fields bytes)) (a-count.Are (n + 1)) (slice_set out n v)
+      pub count_last : end ≡ length left → Counted (numbers (fields bytes)) (Some (n + 1)) (slice_set out n v)
       count_last h = rw (s.rest, numbers_last left v h e, one_more) (refl, held_more)
 
       pub count_next : end < length left → SoFar bytes (slice_set out n v) (n + 1) (at + end + 1)

@@ -1,6 +1,7 @@
 -- The fields of a line by the places of its tabs: one field, two, or any number of them. Assumes nothing.
 use Rattle.std.specs.Prelude.{◌≡◌, ℕ, suc, ◌+◌, ◌<◌, ◌≤◌, Bool, true, false, not, ◌&&◌, List, [], ◌∷◌, length, take, drop, ◌==◌, refl}
-use Rattle.std.proofs.Common.{sym, arith, eqb-true, take_all}
+use Rattle.std.proofs.Common.{sym, ap, ◌∙◌, arith, eqb-true, take_all}
+use lib.Pointwise.{pointwise}
 use Rattle.std.proofs.lemmas.Bool.{false≢true}
 use Rattle.std.proofs.Math.Option.{Option, none, some}
 use Rattle.std.proofs.Math.Logic.{by_cases}
@@ -87,6 +88,17 @@ is_same [] [] h = refl
 is_same [] (c ∷ cs) h = absurd (false≢true h)
 is_same (b ∷ bs) [] h = absurd (false≢true h)
 is_same (b ∷ bs) (c ∷ cs) h = cc (eqb-true b c (and_left (b == c) (is bs cs) h), is_same bs cs (and_right (b == c) (is bs cs) h))
+
+-- byte by byte, as code compares
+is_bytes : (bs cs : List ℕ) → pointwise (λ b c. b == c) bs cs ≡ is bs cs
+unfolding is
+is_bytes [] [] = refl
+is_bytes [] (c ∷ cs) = refl
+is_bytes (b ∷ bs) [] = refl
+is_bytes (b ∷ bs) (c ∷ cs) = ap (λ (t : Bool). b == c && t) (is_bytes bs cs)
+
+pub is_told : (bs cs : List ℕ) {w : List ℕ} {t u : Bool} → w ≡ cs → t ≡ pointwise (λ b c. b == c) bs w → t ≡ u → is bs cs ≡ u
+is_told bs cs s e h = sym (is_bytes bs cs) ∙ ap (pointwise (λ (b c : ℕ). b == c) bs) (sym s) ∙ sym e ∙ h
 
 is_tab : (bs cs : List ℕ) → length cs ≤ find tab cs → find tab bs < length bs → is bs cs ≡ false
 is_tab bs cs h l = not_true (is bs cs) (λ e. let m : find tab cs < length cs = rw (is_same bs cs e) at l in omega arith)

@@ -1,7 +1,7 @@
 -- The forms by the places of a line: its kind and the fields behind its letter. Assumes nothing.
-use Rattle.std.specs.Prelude.{◌≡◌, ℕ, ◌+◌, ◌-◌, ◌<◌, ◌≤◌, true, false, cond, List, [], ◌∷◌, length, take, drop, ◌==◌, ◌≢◌, nat_eq, slice_index, slice_range}
+use Rattle.std.specs.Prelude.{◌≡◌, ℕ, ◌+◌, ◌-◌, ◌<◌, ◌≤◌, true, false, cond, List, [], ◌∷◌, length, take, drop, ◌==◌, ◌≢◌, slice_index, slice_range}
 use Rattle.std.proofs.Math.Path.{refl}
-use Rattle.std.proofs.Common.{sym, ap, ◌∙◌, drop-drop, eq-eqb, ne_eqb}
+use Rattle.std.proofs.Common.{sym, ◌∙◌, drop-drop}
 use Rattle.std.proofs.lemmas.Bool.{false≢true}
 use Rattle.std.proofs.Math.Option.{Option, none, some}
 use native.Mathlib.Omega.{arith}
@@ -12,7 +12,9 @@ use Rattle.forms.specs.Text.{tab, find, split_from, number}
 use Rattle.forms.specs.TextLaws.{find_length}
 use Rattle.book.specs.Calls.{Call, bump, decay, insert, switch_off, decide, learn_unit, go_back, bump_reason}
 use Rattle.forms.specs.Forms.{Kind, kind_of, bumps, decays, sets_decay, inserts, switches_off, decides, enqueues, learns_unit, goes_back, bumps_reason, moves_group, is_clause, is_first, is_other, given, alone, one, two, one_number, decay_in, numbers, enqueue_in, call_with, call_in, begins_clause, codes_in, opening_in, first_in}
-use Rattle.forms.specs.Kinds.{kind_number, of_number, of_number_lem, tells_first}
+use Rattle.forms.specs.declared.table.Kind as code
+use Rattle.forms.specs.declared.table.Kind.TheVariants as a_kind
+use Rattle.forms.specs.Kinds.{code_kind, kind_in, kind_back, kind_told, first_told, first_untold}
 use Rattle.forms.specs.Behind.{behind, nothing, lettered_behind, behind_end, tabbed, second_tab, tabbed_long, tabbed_fields, untabbed}
 use Rattle.forms.specs.Laws.{fields_some, one_field, two_last, two_found, pattern_tab, reason_tab, mode-tab}
 use Rattle.forms.specs.Read.{numbered}
@@ -81,10 +83,10 @@ unfolding call_in split_from
 call_none [] e = refl
 call_none (b ∷ bs) e = absurd (omega arith)
 
-pub call_kind : (line : List ℕ) {k : ℕ} → (length line ≢ 0) → k ≡ kind_number (kind_of (slice_index line 0)) → call_in line ≡ given (behind (drop 1 line)) (call_with (of_number k))
+pub call_kind : (line : List ℕ) {k : code.Kind} → (length line ≢ 0) → k ≡ code_kind (kind_of (slice_index line 0)) → call_in line ≡ given (behind (drop 1 line)) (call_with (kind_in k))
 unfolding call_in kind_of
 call_kind [] n e = absurd (n refl)
-call_kind (b ∷ bs) n e = rw (e, of_number_lem (kind_of b)) (lettered_behind (λ b fs. call_with (kind_of b) fs) b bs (λ t fs. rw t))
+call_kind (b ∷ bs) n e = rw (e, kind_back (kind_of b)) (lettered_behind (λ b fs. call_with (kind_of b) fs) b bs (λ t fs. rw t))
 
 -- `y` stands alone
 pub decay_alone : (line : List ℕ) → length line ≡ 1 → given (behind (drop 1 line)) (call_with decays) ≡ some decay
@@ -105,7 +107,7 @@ made make [] = refl
 made make (f ∷ []) = refl
 made make (f ∷ (g ∷ fs)) = refl
 
-one_kind : (x : Kind) (o : Option (List (List ℕ))) → (kind_number x ≢ kind_number decays) → (kind_number x ≢ kind_number sets_decay) → (kind_number x ≢ kind_number enqueues) → (kind_number x ≢ kind_number moves_group) → given (given o (one number)) (numbered x) ≡ given o (call_with x)
+one_kind : (x : Kind) (o : Option (List (List ℕ))) → (x ≢ decays) → (x ≢ sets_decay) → (x ≢ enqueues) → (x ≢ moves_group) → given (given o (one number)) (numbered x) ≡ given o (call_with x)
 one_kind x none d w e f = refl
 one_kind bumps (some fs) d w e f = made bump fs
 one_kind inserts (some fs) d w e f = made insert fs
@@ -122,10 +124,10 @@ one_kind is_clause (some fs) d w e f = nothing (one number fs) (λ v. none) (λ 
 one_kind is_first (some fs) d w e f = nothing (one number fs) (λ v. none) (λ v. refl)
 one_kind is_other (some fs) d w e f = nothing (one number fs) (λ v. none) (λ v. refl)
 
-pub call_one : (line : List ℕ) {k : ℕ} → (length line ≢ 0) → k ≡ kind_number (kind_of (slice_index line 0)) → (k ≢ kind_number decays) → (k ≢ kind_number sets_decay) → (k ≢ kind_number enqueues) → (k ≢ kind_number moves_group) → call_in line ≡ given (given (behind (drop 1 line)) (one number)) (numbered (of_number k))
+pub call_one : (line : List ℕ) {k : code.Kind} → (length line ≢ 0) → k ≡ code_kind (kind_of (slice_index line 0)) → (k ≢ a_kind.Decays) → (k ≢ a_kind.SetsDecay) → (k ≢ a_kind.Enqueues) → (k ≢ a_kind.MovesGroup)
+    → call_in line ≡ given (given (behind (drop 1 line)) (one number)) (numbered (kind_in k))
 call_one line {k} n h d w e f =
-    let same : k ≡ kind_number (of_number k) = h ∙ ap kind_number (sym (ap of_number h ∙ of_number_lem (kind_of (slice_index line 0)))) in
-    call_kind line n h ∙ sym (one_kind (of_number k) (behind (drop 1 line)) (λ z. d (same ∙ z)) (λ z. w (same ∙ z)) (λ z. e (same ∙ z)) (λ z. f (same ∙ z)))
+    call_kind line n h ∙ sym (one_kind (kind_in k) (behind (drop 1 line)) (λ z. d (kind_told z)) (λ z. w (kind_told z)) (λ z. e (kind_told z)) (λ z. f (kind_told z)))
 
 -- clause lines
 pub codes_none : (line : List ℕ) → begins_clause line ≡ false → codes_in line ≡ none
@@ -149,12 +151,9 @@ unfolding first_in
 first_kind [] n = absurd (n refl)
 first_kind (b ∷ bs) n = lettered_behind (λ b fs. cond (b == first_letter) (two opening_in fs) none) b bs (λ t fs. rw t)
 
-module _ (line : List ℕ) (n : length line ≡ 0 → ⊥) {k : ℕ} (e : k ≡ kind_number (kind_of (slice_index line 0))) where
-  tells : nat_eq k (kind_number is_first) ≡ (slice_index line 0 == first_letter)
-  tells = ap (λ (x : ℕ). nat_eq x (kind_number is_first)) e ∙ tells_first (slice_index line 0)
+module _ (line : List ℕ) (n : length line ≡ 0 → ⊥) {k : code.Kind} (e : k ≡ code_kind (kind_of (slice_index line 0))) where
+  pub first_other : (k ≢ a_kind.First) → first_in line ≡ none
+  first_other m = first_kind line n ∙ rw (first_untold (slice_index line 0) e m) (nothing (behind (drop 1 line)) (λ fs. none) (λ fs. refl))
 
-  pub first_other : (k ≢ kind_number is_first) → first_in line ≡ none
-  first_other m = first_kind line n ∙ rw (← tells, ne_eqb k (kind_number is_first) m) (nothing (behind (drop 1 line)) (λ fs. none) (λ fs. refl))
-
-  pub first_behind : k ≡ kind_number is_first → first_in line ≡ given (behind (drop 1 line)) (two opening_in)
-  first_behind m = first_kind line n ∙ rw (← tells, eq-eqb k (kind_number is_first) m)
+  pub first_behind : k ≡ a_kind.First → first_in line ≡ given (behind (drop 1 line)) (two opening_in)
+  first_behind m = first_kind line n ∙ rw (first_told (slice_index line 0) e m)

@@ -1,7 +1,8 @@
 -- Reading bytes from the front: what is left after i bytes still decides. The laws that the loops cite. Assumes nothing.
-use Rattle.std.specs.Prelude.{◌≡◌, ℕ, zero, suc, ◌+◌, ◌-◌, ◌*◌, ◌%◌, ◌^◌, ◌<◌, ◌≤◌, true, false, cond, not, ◌&&◌, T, List, [], ◌∷◌, length, take, drop, ◌≢◌, nat_eq, nat_le, slice_index, slice_index_or, slice_range, Float}
+use Rattle.std.specs.Prelude.{◌≡◌, ℕ, zero, suc, ◌+◌, ◌-◌, ◌*◌, ◌%◌, ◌^◌, ◌<◌, ◌≤◌, true, false, cond, not, ◌&&◌, T, List, [], ◌∷◌, ◌++◌, length, take, drop, ◌≢◌, nat_eq, nat_le, slice_index, slice_index_or, slice_range, Float, Some, None, if◌then◌else◌}
+use Rattle.std.specs.Prelude as code
 use Rattle.std.proofs.Math.Path.{refl}
-use Rattle.std.proofs.Common.{sym, ap, ◌∙◌, arith, add-one, pow-suc, drop_of_length-le, drop-drop}
+use Rattle.std.proofs.Common.{sym, ap, ◌∙◌, arith, add-one, pow-suc, drop_of_length-le, take_all}
 use Rattle.std.proofs.Math.Logic.{by_cases}
 use Rattle.std.proofs.lemmas.Bool.{false≢true}
 use Rattle.std.proofs.Math.Option.{Option, none, some}
@@ -49,19 +50,16 @@ module _ (b : ℕ) (l : List ℕ) (i : ℕ) where
 abbrev pub block : ℕ
 block = 240
 
--- the bytes before place n, and those behind
-pub occurs_parts : (b n : ℕ) (l : List ℕ) → occurs b l ≡ occurs b (take n l) + occurs b (drop n l)
+-- in bytes behind others, and in none
+pub occurs_append : (b : ℕ) (l r : List ℕ) → occurs b (l ++ r) ≡ occurs b l + occurs b r
 unfolding occurs
-occurs_parts b zero l = omega arith
-occurs_parts b (suc n) [] = omega arith
-occurs_parts b (suc n) (c ∷ l) = by_cases (ℕ_discrete c b) (λ e. rw (eq-eqb c b e) (omega (arith, occurs_parts b n l))) (λ d. rw (ne_eqb c b d) (occurs_parts b n l))
+occurs_append b [] r = omega arith
+occurs_append b (c ∷ l) r = by_cases (ℕ_discrete c b) (λ e. rw (eq-eqb c b e) (omega (arith, occurs_append b l r))) (λ d. rw (ne_eqb c b d) (occurs_append b l r))
 
--- .. counted from place i, up to place j and from there
-pub occurs_between : (b : ℕ) (l : List ℕ) (i j : ℕ) → i ≤ j → occurs b (drop i l) ≡ occurs b (slice_range l i j) + occurs b (drop j l)
-occurs_between b l i j h =
-    let e : i + (j - i) ≡ j = omega arith in
-    let d : drop (j - i) (drop i l) ≡ drop j l = rw e at (drop-drop (j - i) i l) in
-    rw (sym d) (occurs_parts b (j - i) (drop i l))
+pub occurs_empty : (b : ℕ) (l : List ℕ) → length l ≡ 0 → occurs b l ≡ 0
+unfolding occurs
+occurs_empty b [] e = refl
+occurs_empty b (c ∷ l) e = absurd (omega arith)
 
 -- the number that the digits left give behind v
 unfoldable pub number_from : ℕ → ℕ → List ℕ → Option ℕ
@@ -126,9 +124,9 @@ module _ (top : ℕ) where
   digits_none (b ∷ []) e = number_starts (b ∷ []) (omega arith) (λ z l. omega arith) ∙ e
   digits_none (b ∷ (c ∷ bs)) e = by_cases (ℕ_discrete b digit_zero) (λ z. number_zero (b ∷ (c ∷ bs)) z (omega arith)) (λ z. number_starts (b ∷ (c ∷ bs)) (omega arith) (λ w l. z w) ∙ e)
 
--- the value of a byte as a decimal digit, and 10 where it is none
-abbrev pub digit_value : ℕ → ℕ
-digit_value b = cond (is_digit b) (b - digit_zero) 10
+-- the value of a byte as a decimal digit, if it is one
+abbrev pub digit_of : ℕ → code.Option ℕ
+digit_of b = if is_digit b then Some (b - digit_zero) else None
 
 -- how many digits stand in front, and these
 unfoldable pub digit_run : List ℕ → ℕ
@@ -139,19 +137,14 @@ abbrev pub run : List ℕ → List ℕ
 run bs = take (digit_run bs) bs
 
 module _ (b : ℕ) where
-  pub digit_low : digit_zero ≤ b → b ≤ digit_nine → digit_value b ≡ b - digit_zero
-  digit_low l h = rw (le-leb digit_zero b l, le-leb b digit_nine h)
+  pub digit_told : {d : ℕ} → Some d ≡ digit_of b → (is_digit b ≡ true) × (d ≡ b - digit_zero)
+  digit_told {d} e =
+      true_or_false (is_digit b)
+      (λ t. let same : Some d ≡ Some (b - digit_zero) = rw t at e in (t, cc))
+      (λ f. let none : Some d ≡ None = rw f at e in let z : ◌≡◌ {A = ℕ} 0 1 = cc in absurd (omega arith))
 
-  pub digit_other : (digit_zero ≤ b → b ≤ digit_nine → ⊥) → digit_value b ≡ 10
-  digit_other n =
-      let none : is_digit b ≡ false = not_true (is_digit b) (λ e. n (leb-true digit_zero b (and_left (nat_le digit_zero b) (nat_le b digit_nine) e)) (leb-true b digit_nine (and_right (nat_le digit_zero b) (nat_le b digit_nine) e))) in
-      rw none
-
-  pub digit_is : (digit_value b < 10) → is_digit b ≡ true
-  digit_is h = not_false (is_digit b) (λ e. (let m : 10 < 10 = rw e at h in omega arith))
-
-  pub digit_none : (digit_value b < 10 → ⊥) → is_digit b ≡ false
-  digit_none n = not_true (is_digit b) (λ e. n (rw e (omega (arith, leb-true b digit_nine (and_right (nat_le digit_zero b) (nat_le b digit_nine) e)))))
+  pub digit_untold : None ≡ digit_of b → is_digit b ≡ false
+  digit_untold e = not_true (is_digit b) (λ t. let some : None ≡ Some (b - digit_zero) = rw t at e in let z : ◌≡◌ {A = ℕ} 0 1 = cc in absurd (omega arith))
 
 -- the next byte of the digits in front: one more, or none
 module _ (l : List ℕ) (i : ℕ) where
@@ -222,6 +215,25 @@ module _ (top : ℕ) (bs : List ℕ) where
       by_cases (dec_lt (digit_run bs) (length bs))
       (λ l. by_cases (ℕ_discrete (slice_index bs (digit_run bs)) tab) (λ t. (field_run (λ m. t)).1 ∙ e) (λ n. field_other l n))
       (λ n. (field_run (λ l. absurd (n l))).1 ∙ e)
+
+-- the digits in front are all the bytes, or the bytes are no number
+part_run : (bs : List ℕ) → digit_run bs < length bs → all is_digit bs ≡ false
+unfolding digit_run all
+part_run [] h = absurd (omega arith)
+part_run (b ∷ bs) h =
+    true_or_false (is_digit b)
+    (λ t. let l : suc (digit_run bs) < suc (length bs) = rw t at h in rw t (part_run bs (omega arith)))
+    (λ f. rw f)
+
+module _ (top : ℕ) (bs : List ℕ) where
+  pub run_whole : length bs ≤ digit_run bs → number_up_to top (run bs) ≡ number_up_to top bs
+  run_whole h = ap (number_up_to top) (take_all (digit_run bs) bs h)
+
+  pub run_part : digit_run bs < length bs → number_up_to top bs ≡ none
+  run_part h = digits_none top bs (unfold number_from in rw (part_run bs h))
+
+  pub run_nothing : number_up_to top (run bs) ≡ none → number_up_to top bs ≡ none
+  run_nothing e = by_cases (dec_lt (digit_run bs) (length bs)) (λ l. run_part l) (λ n. sym (run_whole (omega (arith, n))) ∙ e)
 
 -- the value of a byte as a hexadecimal digit, and 16 where it is none
 abbrev pub hex_value : ℕ → ℕ

@@ -3,87 +3,59 @@
 
 pub mod table;
 
-ghost use Rattle.std.specs.Prelude.{◌≡◌, ℕ, List, drop, slice_set};
+ghost use Rattle.std.specs.Prelude.{◌≡◌, ℕ, List, drop, slice_set, option_map};
 ghost use Rattle.std.proofs.Math.Option.{some};
+ghost use Rattle.laws.specs.Options.{as_code};
 ghost use Rattle.forms.specs.Text.{fields};
 ghost use Rattle.forms.specs.Text as text-spec;
-ghost use Rattle.forms.specs.TextRead.{whole_of};
 ghost use Rattle.forms.specs.Forms as spec;
-ghost use Rattle.forms.specs.Kinds.{of_number};
+ghost use Rattle.forms.specs.Kinds.{kind_in};
 ghost use Rattle.forms.specs.Behind.{behind, tabbed, second_tab};
-ghost use Rattle.forms.specs.Read.{call_read, CallRead, Fits, GroupRead, Counted, first_of, numbered};
+ghost use Rattle.forms.specs.Read.{call_read, CallRead, Fits, GroupRead, Counted, first_of, mode_of, numbered};
 
 use crate::letters::{DASH, VMTF, VSIDS};
-use crate::text::{Bits, Field, TAB, Whole};
+use crate::text::{Field, TAB};
 use lit::{MAX_GROUP, NONE};
 use session::Call;
-use table::{
-    BUMPS, BUMPS_REASON, DECAYS, DECIDES, ENQUEUES, GOES_BACK, INSERTS, IS_CLAUSE, IS_FIRST,
-    LEARNS_UNIT, MOVES_GROUP, SETS_DECAY, SWITCHES_OFF, kind,
-};
+use table::Kind;
 
 pub mod letters;
 pub mod spelling;
 pub mod text;
 
-// A call, a group whose variables are still to be read, or none where the line has no call's form.
+// What is asked for: a call, or a group whose variables are still to be read.
 #[derive(Clone, Copy)]
-pub enum Read {
+pub enum Asked {
     Is(Call),
     Group,
-    Bad,
 }
 
-// How many whole numbers a line holds, or none where it does not have the form.
-#[derive(Clone, Copy)]
-pub enum Count {
-    Are(usize),
-    Bad,
+// Heap or list mode.
+#[derive(Clone, Copy, PartialEq, Eq)]
+pub enum Mode {
+    Heap,
+    List,
 }
 
-// What a first line opens: heap or list mode with so many variables.
+// What a first line opens: a session in a mode, over so many variables.
 #[derive(Clone, Copy)]
-pub enum First {
-    Heap(u32),
-    List(u32),
-    Bad,
+pub struct Opening {
+    pub mode: Mode,
+    pub vars: u32,
 }
 
 // Whether a line begins as clause lines do.
 pub fn begins_clause(line: &[u8]) -> bool
     ensures { result ≡ spec.begins_clause line.now }
 {
-    if line.len() == 0 {
-        return false;
-    }
-    kind(line[0]) == IS_CLAUSE
-}
-
-// Whether the bytes of a field are these.
-fn is(field: &[u8], word: &[u8]) -> bool
-    ensures { result ≡ spec.is field.now word.now }
-{
-    if field.len() != word.len() {
-        return false;
-    }
-    let mut i = 0;
-    while i < word.len() {
-        if field[i] != word[i] {
-            return false;
-        }
-        i += 1;
-    }
-    true
+    line.len() > 0 && matches!(Kind::of(line[0]), Kind::Clause)
 }
 
 // Whether a tab stands behind a line's first byte, so that fields follow.
 fn has_fields(line: &[u8]) -> bool
     ensures { result ≡ tabbed line.now }
 {
-    if line.len() < 2 {
-        return false;
-    }
-    line[1] == TAB
+    line.len() >= 2 && line[1] == TAB
 }
 
 // The place of the tab behind a line's second field, or the length.
@@ -97,11 +69,11 @@ fn second_tab(line: &[u8]) -> usize
 }
 
 // The whole number behind a line's letter, if it is the one field there.
-fn one_number(line: &[u8]) -> Whole
-    ensures { result ≡ whole_of (spec.given (behind (drop 1 line.now)) (spec.one text-spec.number)) }
+fn one_number(line: &[u8]) -> Option<u32>
+    ensures { result ≡ as_code (spec.given (behind (drop 1 line.now)) (spec.one text-spec.number)) }
 {
     if !has_fields(line) {
-        return Whole::Bad;
+        return None;
     }
     crate::text::number(&line[2..])
 }
@@ -116,138 +88,121 @@ fn put(out: &mut [u32], at: usize, v: u32)
 }
 
 // Whole numbers parted by tabs: how many, and the numbers in out as far as it has room.
-fn read_numbers(bytes: &[u8], out: &mut [u32]) -> Count
+fn read_numbers(bytes: &[u8], out: &mut [u32]) -> Option<usize>
     ensures { Counted (spec.numbers (fields bytes.now)) result out.new }
 {
     let mut n = 0;
     let mut at = 0;
+    // a loop: each field ends where it is read, no range has these places
     loop {
-        let Field::Is(v, end) = crate::text::number_at(bytes, at, NONE as u64) else {
-            return Count::Bad;
-        };
-        put(out, n, v as u32);
+        let Field { value, end } = crate::text::number_at(bytes, at, NONE as u64)?;
+        put(out, n, value as u32);
         n += 1;
         if end == bytes.len() {
-            return Count::Are(n);
+            return Some(n);
         }
         at = end + 1;
     }
 }
 
 // The whole numbers behind a line's letter: none, or fields behind a tab.
-fn read_list(line: &[u8], out: &mut [u32]) -> Count
+fn read_list(line: &[u8], out: &mut [u32]) -> Option<usize>
     ensures { Counted (spec.given (behind (drop 1 line.now)) spec.numbers) result out.new }
 {
     if line.len() < 2 {
-        return Count::Are(0);
+        return Some(0);
     }
     if line[1] != TAB {
-        return Count::Bad;
+        return None;
     }
     read_numbers(&line[2..], out)
 }
 
 // The codes of a clause line.
-pub fn read_codes(line: &[u8], out: &mut [u32]) -> Count
+pub fn read_codes(line: &[u8], out: &mut [u32]) -> Option<usize>
     ensures { Counted (spec.codes_in line.now) result out.new }
 {
     if !begins_clause(line) {
-        return Count::Bad;
+        return None;
     }
     read_list(line, out)
 }
 
 // A reason: the number of a clause, or `-` for NONE. NONE's figure is no reason.
-fn read_reason(field: &[u8]) -> Whole
-    ensures { result ≡ whole_of (spec.reason_in field.now) }
+fn read_reason(field: &[u8]) -> Option<u32>
+    ensures { result ≡ as_code (spec.reason_in field.now) }
 {
-    if is(field, &[DASH]) {
-        return Whole::Is(NONE);
+    if field == [DASH].as_slice() {
+        return Some(NONE);
     }
-    let Whole::Is(reason) = crate::text::number(field) else {
-        return Whole::Bad;
-    };
+    let reason = crate::text::number(field)?;
     if reason == NONE {
-        return Whole::Bad;
+        return None;
     }
-    Whole::Is(reason)
+    Some(reason)
 }
 
 // `w`: the pattern of a double.
-fn read_decay(line: &[u8]) -> Read
-    ensures { call_read line.now result ≡ spec.given (behind (drop 1 line.now)) (spec.call_with spec.sets_decay) }
+fn read_decay(line: &[u8]) -> Option<Call>
+    ensures { call_read result ≡ spec.given (behind (drop 1 line.now)) (spec.call_with spec.sets_decay) }
 {
     if !has_fields(line) {
-        return Read::Bad;
+        return None;
     }
-    let Bits::Are(p) = crate::text::pattern(&line[2..]) else {
-        return Read::Bad;
-    };
-    Read::Is(Call::SetDecay(crate::text::double(p)))
+    let bits = crate::text::pattern(&line[2..])?;
+    Some(Call::SetDecay(crate::text::double(bits)))
 }
 
 // `e`: a code and a reason.
-fn read_enqueue(line: &[u8]) -> Read
-    ensures { call_read line.now result ≡ spec.given (behind (drop 1 line.now)) (spec.call_with spec.enqueues) }
+fn read_enqueue(line: &[u8]) -> Option<Call>
+    ensures { call_read result ≡ spec.given (behind (drop 1 line.now)) (spec.call_with spec.enqueues) }
 {
     let end = second_tab(line);
     if end == line.len() {
-        return Read::Bad;
+        return None;
     }
-    let Whole::Is(code) = crate::text::number(&line[2..end]) else {
-        return Read::Bad;
-    };
-    let Whole::Is(reason) = read_reason(&line[end + 1..]) else {
-        return Read::Bad;
-    };
-    Read::Is(Call::Enqueue(code, reason))
+    let code = crate::text::number(&line[2..end])?;
+    let reason = read_reason(&line[end + 1..])?;
+    Some(Call::Enqueue(code, reason))
 }
 
 // The call of a kind that takes one whole number.
-fn with_number(k: u8, v: u32) -> Read
-    ensures { (line : List ℕ) → call_read line result ≡ numbered (of_number k) v }
+pub fn with_number(k: Kind, v: u32) -> Option<Call>
+    ensures { call_read result ≡ numbered (kind_in k) v }
 {
     match k {
-        BUMPS => Read::Is(Call::Bump(v)),
-        INSERTS => Read::Is(Call::Insert(v)),
-        SWITCHES_OFF => Read::Is(Call::SwitchOff(v)),
-        DECIDES => Read::Is(Call::Decide(v)),
-        LEARNS_UNIT => Read::Is(Call::LearnUnit(v)),
-        GOES_BACK => Read::Is(Call::GoBack(v)),
-        BUMPS_REASON => Read::Is(Call::BumpReason(v)),
-        _ => Read::Bad,
+        Kind::Bumps => Some(Call::Bump(v)),
+        Kind::Inserts => Some(Call::Insert(v)),
+        Kind::SwitchesOff => Some(Call::SwitchOff(v)),
+        Kind::Decides => Some(Call::Decide(v)),
+        Kind::LearnsUnit => Some(Call::LearnUnit(v)),
+        Kind::GoesBack => Some(Call::GoBack(v)),
+        Kind::BumpsReason => Some(Call::BumpReason(v)),
+        _ => None,
     }
 }
 
 // The call of such a kind that a line is.
-fn read_one(k: u8, line: &[u8]) -> Read
-    ensures { call_read line.now result ≡ spec.given (spec.given (behind (drop 1 line.now)) (spec.one text-spec.number)) (numbered (of_number k)) }
+fn read_one(k: Kind, line: &[u8]) -> Option<Call>
+    ensures { call_read result ≡ spec.given (spec.given (behind (drop 1 line.now)) (spec.one text-spec.number)) (numbered (kind_in k)) }
 {
-    let Whole::Is(v) = one_number(line) else {
-        return Read::Bad;
-    };
-    with_number(k, v)
+    with_number(k, one_number(line)?)
 }
 
 // The call that a line is.
-pub fn read_call(line: &[u8]) -> Read
+pub fn read_call(line: &[u8]) -> Option<Asked>
     ensures { CallRead line.now result }
 {
     if line.len() == 0 {
-        return Read::Bad;
+        return None;
     }
-    let k = kind(line[0]);
+    let k = Kind::of(line[0]);
     match k {
-        DECAYS => {
-            if line.len() == 1 {
-                return Read::Is(Call::Decay);
-            }
-            Read::Bad
-        }
-        SETS_DECAY => read_decay(line),
-        ENQUEUES => read_enqueue(line),
-        MOVES_GROUP => Read::Group,
-        _ => read_one(k, line),
+        Kind::Decays => (line.len() == 1).then_some(Asked::Is(Call::Decay)),
+        Kind::SetsDecay => read_decay(line).map(Asked::Is),
+        Kind::Enqueues => read_enqueue(line).map(Asked::Is),
+        Kind::MovesGroup => Some(Asked::Group),
+        _ => read_one(k, line).map(Asked::Is),
     }
 }
 
@@ -262,55 +217,52 @@ pub const SOME: usize = 512;
 pub const MANY: usize = MAX_GROUP as usize;
 
 // The variables of a group, in front in vars: at most 2,048.
-pub fn read_group(line: &[u8], vars: &mut [u32]) -> Count
+pub fn read_group(line: &[u8], vars: &mut [u32]) -> Option<usize>
     requires { Fits line.now vars.old }
     ensures { GroupRead line.now result vars.new }
 {
-    let Count::Are(k) = read_list(line, vars) else {
-        return Count::Bad;
-    };
+    let k = read_list(line, vars)?;
     if k > MAX_GROUP as usize {
-        return Count::Bad;
+        return None;
     }
-    Count::Are(k)
+    Some(k)
 }
 
-// What n variables and the word of a mode open: `vsids` is the heap, `vmtf` the list.
-fn opening(n: u32, word: &[u8]) -> First
-    ensures { result ≡ first_of (spec.given (spec.mode_in word.now) (λ m. some (record { vars = n; mode = m }))) }
+// The mode of a word: `vsids` is the heap, `vmtf` the list.
+fn read_mode(word: &[u8]) -> Option<Mode>
+    ensures { result ≡ option_map mode_of (as_code (spec.mode_in word.now)) }
 {
-    if is(word, &VSIDS) {
-        return First::Heap(n);
+    if word == VSIDS.as_slice() {
+        return Some(Mode::Heap);
     }
-    if is(word, &VMTF) {
-        return First::List(n);
+    if word == VMTF.as_slice() {
+        return Some(Mode::List);
     }
-    First::Bad
+    None
 }
 
 // What stands behind the letter of a first line: the number of variables and the mode.
-fn read_opening(line: &[u8]) -> First
+fn read_opening(line: &[u8]) -> Option<Opening>
     ensures { result ≡ first_of (spec.given (behind (drop 1 line.now)) (spec.two spec.opening_in)) }
 {
     let end = second_tab(line);
     if end == line.len() {
-        return First::Bad;
+        return None;
     }
-    let Whole::Is(n) = crate::text::number(&line[2..end]) else {
-        return First::Bad;
-    };
-    opening(n, &line[end + 1..])
+    let vars = crate::text::number(&line[2..end])?;
+    let mode = read_mode(&line[end + 1..])?;
+    Some(Opening { mode, vars })
 }
 
 // The first line.
-pub fn read_first(line: &[u8]) -> First
+pub fn read_first(line: &[u8]) -> Option<Opening>
     ensures { result ≡ first_of (spec.first_in line.now) }
 {
     if line.len() == 0 {
-        return First::Bad;
+        return None;
     }
-    if kind(line[0]) != IS_FIRST {
-        return First::Bad;
+    match Kind::of(line[0]) {
+        Kind::First => read_opening(line),
+        _ => None,
     }
-    read_opening(line)
 }

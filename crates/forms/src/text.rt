@@ -1,10 +1,11 @@
 // The text of a call sheet: places of bytes, whole numbers, bit patterns, and the digits of answers.
-ghost use Rattle.std.specs.Prelude.{◌≡◌, ◌+◌, ◌<◌, ◌≤◌, [], ◌∷◌, length, take, drop, if◌then◌else◌, from_bits};
+ghost use Rattle.std.specs.Prelude.{◌≡◌, ◌+◌, ◌-◌, ◌<◌, ◌≤◌, Some, None, [], ◌∷◌, length, take, drop, if◌then◌else◌, from_bits};
 ghost use Rattle.std.specs.Float.{binary64};
 ghost use Rattle.forms.specs.Letters.{digit_zero};
 ghost use Rattle.forms.specs.Text as spec;
-ghost use Rattle.forms.specs.TextRead.{whole_of, field_of, bits_of};
-ghost use Rattle.forms.specs.Reading.{block, digit_value, digit_run, run};
+ghost use Rattle.laws.specs.Options.{as_code};
+ghost use Rattle.forms.specs.TextRead.{field_of};
+ghost use Rattle.forms.specs.Reading.{block, digit_of, digit_run, run};
 ghost use Rattle.forms.specs.Written.{Wrote};
 
 use lit::NONE;
@@ -13,36 +14,23 @@ pub const TAB: u8 = 9;
 
 pub const NEWLINE: u8 = 10;
 
-// A whole number, or none where the bytes do not have its form.
+// The whole number that a field is, and the place behind the field.
 #[derive(Clone, Copy)]
-pub enum Whole {
-    Is(u32),
-    Bad,
-}
-
-// The whole number that a field is and the place behind the field, or none where the bytes do not have a number's form.
-#[derive(Clone, Copy)]
-pub enum Field {
-    Is(u64, usize),
-    Bad,
-}
-
-// The 64 bits of a double, or none where the bytes do not have their form.
-#[derive(Clone, Copy)]
-pub enum Bits {
-    Are(u64),
-    Bad,
+pub struct Field {
+    pub value: u64,
+    pub end: usize,
 }
 
 // The place of the first such byte, or the length.
 pub fn find(bytes: &[u8], b: u8) -> usize
     ensures { result ≡ spec.find b bytes.now }
 {
-    let mut i = 0;
-    while i < bytes.len() && bytes[i] != b {
-        i += 1;
+    for (i, x) in bytes.iter().enumerate() {
+        if *x == b {
+            return i;
+        }
     }
-    i
+    bytes.len()
 }
 
 // So many bytes are counted at a time: a count below 256 is kept in a byte, which is faster.
@@ -54,12 +42,10 @@ fn occurs_in_block(bytes: &[u8], b: u8) -> u8
     ensures { result ≡ spec.occurs b bytes.now }
 {
     let mut count = 0;
-    let mut i = 0;
-    while i < bytes.len() {
-        if bytes[i] == b {
+    for x in bytes {
+        if *x == b {
             count += 1;
         }
-        i += 1;
     }
     count
 }
@@ -69,137 +55,74 @@ pub fn occurs(bytes: &[u8], b: u8) -> usize
     ensures { result ≡ spec.occurs b bytes.now }
 {
     let mut count = 0;
-    let mut i = 0;
-    while bytes.len() - i > BLOCK {
-        count += occurs_in_block(&bytes[i..i + BLOCK], b) as usize;
-        i += BLOCK;
+    for part in bytes.chunks(BLOCK) {
+        count += occurs_in_block(part, b) as usize;
     }
-    count + occurs_in_block(&bytes[i..], b) as usize
+    count
+}
+
+// The value of a decimal digit.
+fn digit(b: u8) -> Option<u8>
+    ensures { result ≡ digit_of b }
+{
+    if b < b'0' || b > b'9' {
+        return None;
+    }
+    Some(b - b'0')
+}
+
+// The whole number, up to the greatest that may stand there, of the digits from a place on, and the place behind them.
+pub fn digits_at(bytes: &[u8], at: usize, top: u64) -> Option<Field>
+    requires { at ≤ length bytes.now }
+    ensures { result ≡ field_of (at + digit_run (drop at bytes.now)) (spec.number_up_to top (run (drop at bytes.now))) }
+{
+    let tenth = top / 10;
+    let mut value: u64 = 0;
+    let mut end = at;
+    // a while: it ends at the first byte that is no digit, and where the number is too great
+    while end < bytes.len() {
+        let Some(d) = digit(bytes[end]) else {
+            break;
+        };
+        if value > tenth {
+            return None;
+        }
+        value = (value * 10).checked_add(d as u64)?;
+        end += 1;
+    }
+    if end == at || value > top {
+        return None;
+    }
+    if bytes[at] == b'0' && end > at + 1 {
+        return None;
+    }
+    Some(Field { value, end })
 }
 
 // A whole number in decimal: no leading zero, at most 4294967295.
-pub fn number(field: &[u8]) -> Whole
-    ensures { result ≡ whole_of (spec.number field.now) }
+pub fn number(field: &[u8]) -> Option<u32>
+    ensures { result ≡ as_code (spec.number field.now) }
 {
-    if field.len() == 0 {
-        return Whole::Bad;
+    let Field { value, end } = digits_at(field, 0, NONE as u64)?;
+    if end < field.len() {
+        return None;
     }
-    if field[0] == b'0' && field.len() > 1 {
-        return Whole::Bad;
-    }
-    let mut v: u64 = 0;
-    let mut i = 0;
-    while i < field.len() {
-        let b = field[i];
-        if b < b'0' || b > b'9' {
-            return Whole::Bad;
-        }
-        v = v * 10 + (b - b'0') as u64;
-        if v > NONE as u64 {
-            return Whole::Bad;
-        }
-        i += 1;
-    }
-    Whole::Is(v as u32)
+    Some(value as u32)
 }
 
-// The value of a decimal digit, or 10 where the byte is none.
-fn digit(b: u8) -> u8
-    ensures { result ≡ digit_value b }
-{
-    if b >= b'0' && b <= b'9' {
-        return b - b'0';
-    }
-    10
-}
-
-// The greatest number of 64 bits, and what it is without its last digit.
-const MOST: u64 = 18446744073709551615;
-
-const MOST_TENTH: u64 = 1844674407370955161;
-
-// The whole number, up to the greatest that may stand there, of the digits from a place on, and the place behind them.
-pub fn digits_at(bytes: &[u8], at: usize, top: u64) -> Field
-    requires { at ≤ length bytes.now }
-    ensures { result ≡ field_of (at + digit_run (drop at bytes.now)) (spec.number_up_to top (run (drop at bytes.now))) }
-{
-    if at == bytes.len() {
-        return Field::Bad;
-    }
-    let first = digit(bytes[at]);
-    if first == 10 {
-        return Field::Bad;
-    }
-    let mut i = at + 1;
-    if first == 0 {
-        if i < bytes.len() && digit(bytes[i]) < 10 {
-            return Field::Bad;
-        }
-        return Field::Is(0, i);
-    }
-    let mut value = first as u64;
-    while i < bytes.len() && digit(bytes[i]) < 10 {
-        let d = digit(bytes[i]) as u64;
-        if value >= MOST_TENTH && value > (MOST - d) / 10 {
-            return Field::Bad;
-        }
-        value = value * 10 + d;
-        i += 1;
-    }
-    if value > top {
-        return Field::Bad;
-    }
-    Field::Is(value, i)
-}
-
-// The same of 32 bits: a number that is not too great has room for a digit more.
-pub fn small_digits_at(bytes: &[u8], at: usize, top: u32) -> Field
-    requires { at ≤ length bytes.now }
-    ensures { result ≡ field_of (at + digit_run (drop at bytes.now)) (spec.number_up_to top (run (drop at bytes.now))) }
-{
-    if at == bytes.len() {
-        return Field::Bad;
-    }
-    let first = digit(bytes[at]);
-    if first == 10 {
-        return Field::Bad;
-    }
-    let mut i = at + 1;
-    if first == 0 {
-        if i < bytes.len() && digit(bytes[i]) < 10 {
-            return Field::Bad;
-        }
-        return Field::Is(0, i);
-    }
-    let mut value = first as u64;
-    while i < bytes.len() && digit(bytes[i]) < 10 {
-        value = value * 10 + digit(bytes[i]) as u64;
-        if value > top as u64 {
-            return Field::Bad;
-        }
-        i += 1;
-    }
-    if value > top as u64 {
-        return Field::Bad;
-    }
-    Field::Is(value, i)
-}
-
-// The same of the field from a place up to the next tab or the end.
-pub fn number_at(bytes: &[u8], at: usize, top: u64) -> Field
+// The whole number of the field from a place up to the next tab or the end, and the place behind it.
+pub fn number_at(bytes: &[u8], at: usize, top: u64) -> Option<Field>
     requires { at ≤ length bytes.now }
     ensures { result ≡ field_of (at + spec.find spec.tab (drop at bytes.now)) (spec.number_up_to top (take (spec.find spec.tab (drop at bytes.now)) (drop at bytes.now))) }
 {
-    let Field::Is(v, end) = digits_at(bytes, at, top) else {
-        return Field::Bad;
-    };
-    if end < bytes.len() && bytes[end] != TAB {
-        return Field::Bad;
+    let field = digits_at(bytes, at, top)?;
+    if field.end < bytes.len() && bytes[field.end] != TAB {
+        return None;
     }
-    Field::Is(v, end)
+    Some(field)
 }
 
-// The value of a lower-case hexadecimal digit, or 16 where the byte is none.
+// The value of a lower-case hexadecimal digit, or 16 where the byte is none: a number, so that sixteen bytes are looked at without a branch.
 fn hex_digit(b: u8) -> u8
     ensures { result ≡ (if spec.is_hex b then spec.hex_digit b else 16) }
 {
@@ -216,27 +139,23 @@ fn hex_digit(b: u8) -> u8
 }
 
 // A pattern of 64 bits as 16 lower-case hexadecimal digits.
-pub fn pattern(field: &[u8]) -> Bits
-    ensures { result ≡ bits_of (spec.pattern field.now) }
+pub fn pattern(field: &[u8]) -> Option<u64>
+    ensures { result ≡ as_code (spec.pattern field.now) }
 {
     if field.len() != 16 {
-        return Bits::Bad;
+        return None;
     }
     let mut v: u64 = 0;
     let mut worst: u8 = 0;
-    let mut i = 0;
-    while i < 16 {
-        let d = hex_digit(field[i]);
-        if d > worst {
-            worst = d;
-        }
+    for b in field {
+        let d = hex_digit(*b);
+        worst = worst.max(d);
         v = v * 16 + (d % 16) as u64;
-        i += 1;
     }
     if worst >= 16 {
-        return Bits::Bad;
+        return None;
     }
-    Bits::Are(v)
+    Some(v)
 }
 
 // The bit of the sign, and the pattern of infinity: one above it, the sign aside, is a NaN's.
@@ -260,6 +179,7 @@ pub fn digit_count(v: u64) -> usize
 {
     let mut k = 0;
     let mut left = v;
+    // a while: it goes by the value that is left
     while left >= 10000 {
         k += 4;
         left /= 10000;

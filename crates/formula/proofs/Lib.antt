@@ -1,3 +1,4 @@
 pub mod Distinct
 pub mod Replies
 pub mod Marks
+pub mod Alls

@@ -1,15 +1,16 @@
 // The three checks of clause.rs and formula.rs that a caller can ask for, over a clause list.
-ghost use Rattle.std.specs.Prelude.{◌≡◌, ◌+◌, ◌≤◌, ◌<◌, length};
+ghost use Rattle.std.specs.Prelude.{◌≡◌, ◌+◌, ◌≤◌, ◌<◌, length, OnOk};
 ghost use Rattle.formula.specs.Clauses as spec;
 ghost use Rattle.formula.specs.Good.{GoodShape};
 ghost use Rattle.formula.specs.Checks as checks;
 ghost use Rattle.formula.specs.Marks.{Unmarked};
 ghost use Rattle.lit.specs.Numbers.{max_vars};
 
-use lit::{BAD_CLAUSES, BAD_LENGTH, MANY_VARS, MAX_VARS};
+use crate::Clauses;
+use lit::{MAX_VARS, Refusal};
 
 // What a check says of a formula. The assignment in the source's Sat is always empty here, and is left out.
-#[derive(Clone, Copy)]
+#[derive(Clone, Copy, PartialEq, Eq, Debug)]
 pub enum SatResult {
     Err,
     Sat,
@@ -17,45 +18,30 @@ pub enum SatResult {
     Unknown,
 }
 
-// The reply of a check with a formula's answer, or the number of the refusal.
-#[derive(Clone, Copy)]
-pub enum Checked {
-    Refused(u32),
-    Answer(SatResult),
-}
-
-// The reply of a check that is passed or not, or the number of the refusal.
-#[derive(Clone, Copy)]
-pub enum Tested {
-    Refused(u32),
-    Answer(bool),
-}
-
 // Whether the literal at place i has another variable than each one before it.
 fn new_at(codes: &[u32], i: usize) -> bool
     requires { i < length codes.now }
     ensures { result ≡ checks.new_at codes.now i }
 {
-    let mut j = 0;
-    while j < i {
-        if lit::index(codes[i]) == lit::index(codes[j]) {
+    let v = lit::index(codes[i]);
+    // `all` was tried: its proof did not close
+    for code in &codes[..i] {
+        if v == lit::index(*code) {
             return false;
         }
-        j += 1;
     }
     true
 }
 
 // Whether no variable stands twice in the clause, in either polarity.
+#[tactic(auto, using(laws::specs::Every::every_next, laws::specs::Every::every_not), unfolding(crate::specs::Checks::no_duplicates, laws::specs::Every::every))]
 fn distinct(codes: &[u32]) -> bool
     ensures { result ≡ checks.no_duplicates codes.now }
 {
-    let mut i = 0;
-    while i < codes.len() {
+    for i in 0..codes.len() {
         if !new_at(codes, i) {
             return false;
         }
-        i += 1;
     }
     true
 }
@@ -65,9 +51,8 @@ fn check_clause(n: u32, codes: &[u32], marks: &mut [u32], mark: u32) -> bool
     requires { Unmarked n mark marks.old }
     ensures { (result ≡ checks.check_clause_invariant n codes.now) × Unmarked n (mark + 1) marks.new }
 {
-    let mut i = 0;
-    while i < codes.len() {
-        let v = lit::index(codes[i]);
+    for code in codes {
+        let v = lit::index(*code);
         if v >= n {
             return false;
         }
@@ -75,107 +60,115 @@ fn check_clause(n: u32, codes: &[u32], marks: &mut [u32], mark: u32) -> bool
             return false;
         }
         marks[v as usize] = mark;
-        i += 1;
     }
     true
 }
 
 // Err or Unsat, by the first clause that fails its check or is empty; else Unknown.
-fn check_each(n: u32, lits: &[u32], ends: &[u32]) -> SatResult
-    requires { GoodShape lits.now ends.now × (n ≤ max_vars) }
-    ensures { result ≡ checks.check_each n (spec.clauses lits.now ends.now) }
+fn check_each(n: u32, list: Clauses) -> SatResult
+    requires { GoodShape list.lits.now list.ends.now × (n ≤ max_vars) }
+    ensures { result ≡ checks.check_each n (spec.clauses list.entry.lits.now list.entry.ends.now) }
 {
     let mut marks = [0u32; MAX_VARS as usize];
-    let count = ends.len() as u32;
-    let mut i = 0;
-    while i < count {
-        let codes = crate::clause(lits, ends, i);
+    for i in 0..list.ends.len() as u32 {
+        let codes = list.clause(i);
         if !check_clause(n, codes, &mut marks, i + 1) {
             return SatResult::Err;
         }
         if codes.len() == 0 {
             return SatResult::Unsat;
         }
-        i += 1;
     }
     SatResult::Unknown
 }
 
 // What is known of a formula before any search.
-fn check_formula(n: u32, lits: &[u32], ends: &[u32]) -> SatResult
-    requires { GoodShape lits.now ends.now × (n ≤ max_vars) }
-    ensures { result ≡ checks.check_formula_invariant n (spec.clauses lits.now ends.now) }
+#[tactic(auto, using(crate::specs::Reading::length_clauses), unfolding(crate::specs::Checks::check_formula_invariant))]
+fn check_formula(n: u32, list: Clauses) -> SatResult
+    requires { GoodShape list.lits.now list.ends.now × (n ≤ max_vars) }
+    ensures { result ≡ checks.check_formula_invariant n (spec.clauses list.entry.lits.now list.entry.ends.now) }
 {
-    if ends.len() == 0 {
+    if list.ends.len() == 0 {
         return SatResult::Sat;
     }
     if n == 0 {
         return SatResult::Err;
     }
-    check_each(n, lits, ends)
+    check_each(n, list)
 }
 
-// The refusal of a list of so many literals and clauses, with variables left aside, or 0.
-fn list_refusal(lits: &[u32], ends: &[u32], literals: u32, clauses: u32) -> u32
-    ensures { result ≡ checks.list_refusal lits.now ends.now literals clauses }
+// Whether the list has so many literals and clauses and is one, with variables left aside; or the refusal.
+#[tactic(auto, unfolding(crate::specs::Checks::check_counts))]
+fn check_counts(list: Clauses, literals: u32, clauses: u32) -> Result<(), Refusal>
+    ensures refused { result ≡ checks.check_counts list.entry.lits.now list.entry.ends.now literals clauses }
+    ensures good { OnOk result (GoodShape list.entry.lits.now list.entry.ends.now) }
 {
-    if lits.len() != literals as usize {
-        return BAD_LENGTH;
+    if list.lits.len() != literals as usize {
+        return Err(Refusal::BadLength);
     }
-    if ends.len() != clauses as usize {
-        return BAD_LENGTH;
+    if list.ends.len() != clauses as usize {
+        return Err(Refusal::BadLength);
     }
-    if crate::check_list(lits, ends) {
-        0
+    if !list.check_list() {
+        return Err(Refusal::BadClauses);
+    }
+    Ok(())
+}
+
+// Whether there may be n variables.
+#[tactic(auto, unfolding(crate::specs::Checks::check_vars))]
+fn check_vars(n: u32) -> Result<(), Refusal>
+    ensures refused { result ≡ checks.check_vars n }
+    ensures few { OnOk result (n ≤ max_vars) }
+{
+    if n > MAX_VARS {
+        Err(Refusal::ManyVars)
     } else {
-        BAD_CLAUSES
+        Ok(())
     }
 }
 
 // Whether no variable stands twice in a clause of so many literals.
-pub fn no_duplicates(codes: &[u32], count: u32) -> Tested
+#[tactic(auto, unfolding(crate::specs::Checks::no_duplicates_call))]
+pub fn no_duplicates(codes: &[u32], count: u32) -> Result<bool, Refusal>
     ensures { result ≡ checks.no_duplicates_call codes.now count }
 {
     let ends = [count];
-    let status = list_refusal(codes, &ends, count, 1);
-    if status != 0 {
-        return Tested::Refused(status);
-    }
-    Tested::Answer(distinct(codes))
+    let list = Clauses {
+        lits: codes,
+        ends: &ends,
+    };
+    check_counts(list, count, 1)?;
+    Ok(distinct(codes))
 }
 
 // Whether a clause of so many literals is over n variables and none stands twice.
-pub fn check_clause_invariant(n: u32, codes: &[u32], count: u32) -> Tested
+#[tactic(auto, unfolding(crate::specs::Checks::check_clause_invariant_call))]
+pub fn check_clause_invariant(n: u32, codes: &[u32], count: u32) -> Result<bool, Refusal>
     ensures { result ≡ checks.check_clause_invariant_call n codes.now count }
 {
-    if n > MAX_VARS {
-        return Tested::Refused(MANY_VARS);
-    }
+    check_vars(n)?;
     let ends = [count];
-    let status = list_refusal(codes, &ends, count, 1);
-    if status != 0 {
-        return Tested::Refused(status);
-    }
+    let list = Clauses {
+        lits: codes,
+        ends: &ends,
+    };
+    check_counts(list, count, 1)?;
     let mut marks = [0u32; MAX_VARS as usize];
-    Tested::Answer(check_clause(n, codes, &mut marks, 1))
+    Ok(check_clause(n, codes, &mut marks, 1))
 }
 
 // What is known of a formula of so many literals and clauses before any search.
+#[tactic(auto, unfolding(crate::specs::Checks::check_formula_invariant_call))]
 pub fn check_formula_invariant(
     n: u32,
-    lits: &[u32],
-    ends: &[u32],
+    list: Clauses,
     literals: u32,
     clauses: u32,
-) -> Checked
-    ensures { result ≡ checks.check_formula_invariant_call n lits.now ends.now literals clauses }
+) -> Result<SatResult, Refusal>
+    ensures { result ≡ checks.check_formula_invariant_call n list.entry.lits.now list.entry.ends.now literals clauses }
 {
-    if n > MAX_VARS {
-        return Checked::Refused(MANY_VARS);
-    }
-    let status = list_refusal(lits, ends, literals, clauses);
-    if status != 0 {
-        return Checked::Refused(status);
-    }
-    Checked::Answer(check_formula(n, lits, ends))
+    check_vars(n)?;
+    check_counts(list, literals, clauses)?;
+    Ok(check_formula(n, list))
 }

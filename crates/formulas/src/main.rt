@@ -2,8 +2,9 @@
 // `no_duplicates`, c for `check_clause_invariant`, f for `check_formula_invariant`), the status, and the answer's number or NONE.
 #![tactic(auto)]
 
-use formula::checks::{Checked, SatResult, Tested};
-use lit::NONE;
+use formula::Clauses;
+use formula::checks::SatResult;
+use lit::{NONE, Refusal};
 use std::io;
 
 // Prints a line.
@@ -11,30 +12,17 @@ fn show(rt: &impl Print, check: char, status: u32, reply: u32) -> io::Result<()>
     println!(rt; "{check}\t{status}\t{reply}")
 }
 
-// What a check that is passed or not answers.
-fn show_tested(rt: &impl Print, check: char, x: Tested) -> io::Result<()> {
-    match x {
-        Tested::Refused(status) => show(rt, check, status, NONE),
-        Tested::Answer(passed) => show(rt, check, 0, passed as u32),
-    }
-}
-
-// The number of a formula's answer.
-fn number_of(answer: SatResult) -> u32 {
+// What a check answers: its answer's number, or the number of the refusal.
+fn show_answer(rt: &impl Print, check: char, answer: Result<u32, Refusal>) -> io::Result<()> {
     match answer {
-        SatResult::Err => 0,
-        SatResult::Sat => 1,
-        SatResult::Unsat => 2,
-        SatResult::Unknown => 3,
+        Ok(reply) => show(rt, check, 0, reply),
+        Err(refusal) => show(rt, check, refusal.number(), NONE),
     }
 }
 
-// What the check of a formula answers.
-fn show_checked(rt: &impl Print, x: Checked) -> io::Result<()> {
-    match x {
-        Checked::Refused(status) => show(rt, 'f', status, NONE),
-        Checked::Answer(answer) => show(rt, 'f', 0, number_of(answer)),
-    }
+// What a check that is passed or not answers.
+fn show_tested(rt: &impl Print, check: char, answer: Result<bool, Refusal>) -> io::Result<()> {
+    show_answer(rt, check, answer.map(u32::from))
 }
 
 // One clause: no variable twice, both polarities of one, no literal, and another count than stated.
@@ -79,13 +67,12 @@ fn try_clauses(rt: &impl Print) -> io::Result<()> {
 fn try_formula(
     rt: &impl Print,
     n: u32,
-    lits: &[u32],
-    ends: &[u32],
+    list: Clauses,
     literals: u32,
     clauses: u32,
 ) -> io::Result<()> {
-    let answer = formula::checks::check_formula_invariant(n, lits, ends, literals, clauses);
-    show_checked(rt, answer)
+    let answer = formula::checks::check_formula_invariant(n, list, literals, clauses);
+    show_answer(rt, 'f', answer.map(|x| x as u32))
 }
 
 fn main(rt: HostRuntime) -> io::Result<()> {
@@ -93,14 +80,95 @@ fn main(rt: HostRuntime) -> io::Result<()> {
     try_clauses(&rt)?;
     // case L
     let none = [0u32; 0];
-    try_formula(&rt, 2, &none, &none, 0, 0)?;
-    try_formula(&rt, 0, &none, &[0], 0, 1)?;
-    try_formula(&rt, 1, &[4], &[0, 1], 1, 2)?;
-    try_formula(&rt, 1, &[4], &[1, 1], 1, 2)?;
-    try_formula(&rt, 1, &[1, 0], &[2], 2, 1)?;
+    try_formula(
+        &rt,
+        2,
+        Clauses {
+            lits: &none,
+            ends: &none,
+        },
+        0,
+        0,
+    )?;
+    try_formula(
+        &rt,
+        0,
+        Clauses {
+            lits: &none,
+            ends: &[0],
+        },
+        0,
+        1,
+    )?;
+    try_formula(
+        &rt,
+        1,
+        Clauses {
+            lits: &[4],
+            ends: &[0, 1],
+        },
+        1,
+        2,
+    )?;
+    try_formula(
+        &rt,
+        1,
+        Clauses {
+            lits: &[4],
+            ends: &[1, 1],
+        },
+        1,
+        2,
+    )?;
+    try_formula(
+        &rt,
+        1,
+        Clauses {
+            lits: &[1, 0],
+            ends: &[2],
+        },
+        2,
+        1,
+    )?;
     // a formula with nothing wrong; too large an N; ends that fall; and another count than stated
-    try_formula(&rt, 2, &[1, 3], &[2], 2, 1)?;
-    try_formula(&rt, 2049, &[1, 3], &[3, 2], 2, 1)?;
-    try_formula(&rt, 2, &[1, 3], &[3, 2], 2, 2)?;
-    try_formula(&rt, 2, &[1, 3], &[3, 2], 2, 1)
+    try_formula(
+        &rt,
+        2,
+        Clauses {
+            lits: &[1, 3],
+            ends: &[2],
+        },
+        2,
+        1,
+    )?;
+    try_formula(
+        &rt,
+        2049,
+        Clauses {
+            lits: &[1, 3],
+            ends: &[3, 2],
+        },
+        2,
+        1,
+    )?;
+    try_formula(
+        &rt,
+        2,
+        Clauses {
+            lits: &[1, 3],
+            ends: &[3, 2],
+        },
+        2,
+        2,
+    )?;
+    try_formula(
+        &rt,
+        2,
+        Clauses {
+            lits: &[1, 3],
+            ends: &[3, 2],
+        },
+        2,
+        1,
+    )
 }

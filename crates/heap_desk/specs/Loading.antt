@@ -1,5 +1,6 @@
 -- A saved session in heap mode, loaded into the fronts of slices: what it says, or that the text says none. Assumes nothing.
-use Rattle.std.specs.Prelude.{ℕ, ◌≡◌, refl, false, List, Float, take}
+use Rattle.std.specs.Prelude.{ℕ, ◌≡◌, refl, false, List, Float, take, Some, None, is_ok}
+use Rattle.std.specs.Prelude as code
 use Rattle.std.proofs.Math.Option.{Option, none, some}
 use Rattle.std.proofs.Common.{arith}
 use Rattle.lit.specs.Numbers.{bad_saved}
@@ -10,9 +11,9 @@ use Rattle.forms.specs.Forms.{vsids}
 use Rattle.saved_text.specs.Saved.{Saved}
 use Rattle.saved_text.specs.Reading.{read_text}
 use Rattle.saved_text.specs.Form.{OpensWith, opened}
-use Rattle.heap_saved.specs.declared.loading.Loaded.{Loaded}
-use Rattle.heap_saved.specs.declared.loading.Loading.{Loading}
-use Rattle.heap_saved.specs.declared.loading.Loading.TheVariants as a-session
+use Rattle.heap_session.specs.declared.HeapState.{HeapState}
+use Rattle.saved_state.specs.declared.judging.Loaded.{Loaded}
+use Rattle.saved_state.specs.Judging.{clauses_fit}
 use Rattle.heap_saved.specs.Reader.{heap_reader}
 use Rattle.heap_saved.specs.Loading as reader
 use Rattle.heap_saved.specs.Reading.{loaded_some}
@@ -21,28 +22,28 @@ use Rattle.saved_sheet.specs.Sheets.{held_said, held_in}
 use Rattle.saved_run.specs.Carried.{Loads, held_none, held_some, loads_some}
 
 -- what the text says, where it says a session
-abbrev pub HeapLoaded : Saved → ℕ → Loaded → (lits ends values levels reasons trail opened : List ℕ) (activity : List Float) (heap indices decision : List ℕ) → Type 0
+abbrev pub HeapLoaded : Saved → ℕ → Loaded HeapState → (lits ends values levels reasons trail opened : List ℕ) (activity : List Float) (heap indices decision : List ℕ) → Type 0
 HeapLoaded s n l lits ends values levels reasons trail levelled activity heap indices decision =
-    Loads heap_reader s n l.literals l.clauses l.good l.passed lits ends (trail_of (take n values) (take n levels) (take n reasons) (take n trail) (take n levelled) l.state.trail)
-    (vsids_of (take n activity) (take n heap) (take n indices) (take n decision) l.state.vsids)
+    Loads heap_reader s n l.literals l.clauses (clauses_fit l.state) (is_ok l.state) lits ends (trail_of (take n values) (take n levels) (take n reasons) (take n trail) (take n levelled) (reader.state_in l.state).trail)
+    (vsids_of (take n activity) (take n heap) (take n indices) (take n decision) (reader.state_in l.state).vsids)
 
 -- What was loaded of the text `old`, which opens n variables, into slices that hold its clause list.
-pub record Text (old : List ℕ) (at n : ℕ) (x : Loading) (lits ends values levels reasons trail levelled : List ℕ) (activity : List Float) (heap indices decision : List ℕ) : Type 0 where
+pub record Text (old : List ℕ) (at n : ℕ) (x : code.Option (Loaded HeapState)) (lits ends values levels reasons trail levelled : List ℕ) (activity : List Float) (heap indices decision : List ℕ) : Type 0 where
   pub opens : OpensWith old at (opened n false)
   pub holds : Holds old lits ends
   pub loads : reader.Loads (read_text old) x lits ends (take n values) (take n levels) (take n reasons) (take n trail) (take n levelled) (take n activity) (take n heap) (take n indices) (take n decision)
 
-module _ {old : List ℕ} {at n : ℕ} {x : Loading} {lits ends values levels reasons trail levelled : List ℕ} {activity : List Float} {heap indices decision : List ℕ} (t : Text old at n x lits ends values levels reasons trail levelled activity heap indices decision) where
+module _ {old : List ℕ} {at n : ℕ} {x : code.Option (Loaded HeapState)} {lits ends values levels reasons trail levelled : List ℕ} {activity : List Float} {heap indices decision : List ℕ} (t : Text old at n x lits ends values levels reasons trail levelled activity heap indices decision) where
   -- no session
-  pub said_none : x ≡ a-session.Bad → held_in old ≡ refuse bad_saved
+  pub said_none : x ≡ None → held_in old ≡ refuse bad_saved
   said_none e = held_none old (go (read_text old) (rw e at t.loads))
     where
-      go : (o : Option Saved) → reader.Loads o a-session.Bad lits ends (take n values) (take n levels) (take n reasons) (take n trail) (take n levelled) (take n activity) (take n heap) (take n indices) (take n decision) → o ≡ none
+      go : (o : Option Saved) → reader.Loads o None lits ends (take n values) (take n levels) (take n reasons) (take n trail) (take n levelled) (take n activity) (take n heap) (take n indices) (take n decision) → o ≡ none
       go none k = refl
       go (some s) (l, same, is) = let z : ◌≡◌ {A = ℕ} 0 1 = cc in absurd (omega arith)
 
   -- or one
-  pub said_some : {l : Loaded} → x ≡ a-session.Is l → (s : Saved) × (held_in old ≡ held_said vsids s) × HeapLoaded s n l lits ends values levels reasons trail levelled activity heap indices decision
+  pub said_some : {l : Loaded HeapState} → x ≡ Some l → (s : Saved) × (held_in old ≡ held_said vsids s) × HeapLoaded s n l lits ends values levels reasons trail levelled activity heap indices decision
   said_some {l} e =
       let y = loaded_some t.opens l lits ends (take n values) (take n levels) (take n reasons) (take n trail) (take n levelled) (take n activity) (take n heap) (take n indices) (take n decision) (rw e at t.loads) in
       (y.0, held_some old y.0 vsids y.1 y.2, loads_some old n lits ends heap_reader y.0 t.holds y.1 y.2 y.3 y.4)

@@ -1,5 +1,5 @@
 -- The end of a run that saves a session in heap mode, and its fresh session. Assumes nothing.
-use Rattle.std.specs.Prelude.{ℕ, ◌≤◌, ◌≡◌, true, List, T, Float, length}
+use Rattle.std.specs.Prelude.{ℕ, ◌≤◌, ◌≡◌, List, T, Float, length}
 use Rattle.std.proofs.Common.{sym, ap, subst, ◌∙◌, arith}
 use Rattle.std.specs.Float.{binary64}
 use Rattle.std.specs.Float.Ieee.{fits}
@@ -16,9 +16,9 @@ use Rattle.heap_session.specs.declared.HeapState.{HeapState}
 use Rattle.heap_session.specs.Good.{GoodSession}
 use Rattle.heap_session.specs.Memory.{session_of}
 use Rattle.heap_session.specs.Check.{fresh_session}
-use Rattle.saved_text.specs.Puts as puts
-use Rattle.saved_text.specs.Puts.{Puts}
+use Rattle.forms.specs.Written.{Wrote}
 use Rattle.heap_saved.specs.Reader.{Savable}
+use Rattle.saved_text.specs.Puts.{farthest}
 use Rattle.heap_saved.specs.Pieces as heap-pieces
 use Rattle.sheet.specs.declared.Place.{Place}
 use Rattle.sheet.specs.Stages.{in_heap}
@@ -29,19 +29,20 @@ use Rattle.saved_run.specs.Ends.{stage_text, Saves}
 
 -- there is room for the text, and it is that of the session behind the lines
 module _ {n : ℕ} {lits ends values levels reasons trail opened : List ℕ} {activity : List Float} {heap indices decision : List ℕ} {u : HeapState} where
-  pub heap_fits : {text : List ℕ} → GoodSession n (length ends) lits ends (trail_of values levels reasons trail opened u.trail) (vsids_of activity heap indices decision u.vsids)
+  pub heap_fits : (text : List ℕ) → GoodSession n (length ends) lits ends (trail_of values levels reasons trail opened u.trail) (vsids_of activity heap indices decision u.vsids)
       → T (fits binary64 u.vsids.step.inc) × T (fits binary64 u.vsids.step.decay) → text_room n (length ends) (length lits) ≤ length text
-      → heap-pieces.Lines n lits ends levels reasons trail activity heap decision u × puts.Room true 0 (heap-pieces.session_text n lits ends levels reasons trail activity heap decision u) text
-  heap_fits g double room =
+      → heap-pieces.Lines n lits ends levels reasons trail activity heap decision u × (length (heap-pieces.session_text n lits ends levels reasons trail activity heap decision u) ≤ length text)
+      × (length (heap-pieces.session_text n lits ends levels reasons trail activity heap decision u) ≤ farthest)
+  heap_fits text g double room =
       let l = heap-pieces.session_lines {opened = opened} {indices = indices} (g, double) in
-      (l, record { near = omega (arith, l.short, l.shape.few_clauses, l.shape.few_literals_lem, l.in_heap_lem.small); fits = λ _. omega (arith, l.short, room) })
+      (l, omega (arith, l.short, room), omega (arith, l.short, l.shape.few_clauses, l.shape.few_literals_lem, l.in_heap_lem.small))
 
   module _ {sheet : List ℕ} {p q : Place} {s : Session n (length ends) (heap_ops n lits ends)} {out out' text text' : List ℕ} {k : ℕ} where
     pub heap_saves : HeapAlong n lits ends sheet p s out q (session_of n (length ends) lits ends values levels reasons trail opened activity heap indices decision u) out' → q.left ≡ 0
-        → Puts true 0 (heap-pieces.session_text n lits ends levels reasons trail activity heap decision u) text text' k → Saves sheet p (in_heap n lits ends s) out text (record { answers = q.at; text = k }) out' text'
+        → Wrote 0 (heap-pieces.session_text n lits ends levels reasons trail activity heap decision u) text text' k → Saves sheet p (in_heap n lits ends s) out text (record { answers = q.at; text = k }) out' text'
     heap_saves a over w = record {
       answers = along_over a over;
-      saved = subst (λ (t : List ℕ). Puts true 0 t text text' k)
+      saved = subst (λ (t : List ℕ). Wrote 0 t text text' k)
           (sym (heap-pieces.session_text_lem n lits ends values levels reasons trail opened activity heap indices decision u) ∙ ap stage_text (along_last a over)) w;
     }
 

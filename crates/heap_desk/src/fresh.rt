@@ -1,223 +1,108 @@
 // A new session in heap mode on a sheet, once the clause lines are read: it is made fresh and checked once, its lines are done, and it is saved.
-ghost use Rattle.std.specs.Prelude.{◌≡◌, ◌≤◌, length, replicate};
+ghost use Rattle.std.specs.Prelude.{◌≡◌, ◌+◌, ◌≤◌, length};
 ghost use Rattle.lit.specs.Numbers as number;
 ghost use Rattle.formula.specs.Good.{GoodClauses};
 ghost use Rattle.trail.specs.Trail.{fresh_trail};
-ghost use Rattle.trail.specs.Memory.{trail_of};
-ghost use Rattle.activity.specs.Doubles.{zero_activity};
+ghost use Rattle.vsids.specs.Vsids.{new};
+ghost use Rattle.heap_session.specs.Held.{trail_held, vsids_held};
 ghost use Rattle.forms.specs.Forms.{vsids};
 ghost use Rattle.sheet.specs.Stages as spec;
 ghost use Rattle.sheet.specs.Running.{Room};
-ghost use Rattle.heap_sheet.specs.Start.{at_start, Blank};
 ghost use Rattle.saved_sheet.specs.Sheets.{text_room};
-ghost use Rattle.saved_run.specs.Sizes as size;
 ghost use Rattle.saved_run.specs.Ends.{Saves};
 
 use crate::run::heap_done;
 use activity::ZERO_ACTIVITY;
-use heap_session::HeapState;
-use heap_sheet::line::HeapPlace;
+use formula::Clauses;
+use heap_session::{HeapSession, HeapState};
 use lit::{NONE, ON, UNASSIGNED};
 use saved_run::{ALL, Both, FEW};
 use sheet::Place;
 use trail::TrailState;
+use vsids::all_members;
 
-// Does the lines of a session from a fresh one on, and saves it. The memory is fresh but for the members and their positions.
+// Does the lines of a session from a fresh one on, and saves it.
 fn heap_fresh(
     sheet: &[u8],
     out: &mut [u8],
     text: &mut [u8],
     n: u32,
-    lits: &[u32],
-    ends: &[u32],
-    values: &mut [u8],
-    levels: &mut [u32],
-    reasons: &mut [u32],
-    trail: &mut [u32],
-    opened: &mut [u32],
-    activity: &mut [f64],
-    heap: &mut [u32],
-    indices: &mut [u32],
-    decision: &mut [u8],
+    list: Clauses<'_>,
+    session: &mut HeapSession<'_>,
     p: Place,
 ) -> Both
-    requires room { Room sheet.now p out.old × (n ≤ number.max_vars) × GoodClauses n lits.now ends.now × (text_room n (length ends.now) (length lits.now) ≤ length text.old) }
-    requires at_start_value { trail_of values.old levels.old reasons.old trail.old opened.old at_start ≡ fresh_trail n }
-    requires activity_value { (activity.old ≡ replicate n zero_activity) × (length heap.old ≡ n) × (length indices.old ≡ n) × (decision.old ≡ replicate n number.switched_on) }
-    ensures { Saves sheet.now p (spec.opened vsids n lits.now ends.now) out.old text.old result out.new text.new }
+    requires room { Room sheet.now p out.old × (n ≤ number.max_vars) × GoodClauses n list.lits.now list.ends.now × (text_room n (length list.ends.now) (length list.lits.now) ≤ length text.old) }
+    requires fresh { (trail_held session.old ≡ fresh_trail n) × (vsids_held session.old ≡ new n) }
+    ensures { Saves sheet.now p (spec.opened vsids n list.entry.lits.now list.entry.ends.now) out.old text.old result out.new text.new }
 {
-    let t = TrailState {
-        len: 0,
-        level: 0,
-        curr_i: 0,
-    };
-    let h = vsids::all_members(heap, indices);
-    let s = HeapState { trail: t, vsids: h };
-    if !heap_session::step::check_state(
-        ends.len() as u32,
-        values,
-        levels,
-        reasons,
-        trail,
-        opened,
-        activity,
-        heap,
-        indices,
-        decision,
-        s,
-    ) {
+    if !session.view().check(list.ends.len() as u32) {
         return Both {
             answers: p.at,
             text: 0,
         };
     }
-    heap_done(
-        sheet,
-        out,
-        text,
-        n,
-        lits,
-        ends,
-        values,
-        levels,
-        reasons,
-        trail,
-        opened,
-        activity,
-        heap,
-        indices,
-        decision,
-        HeapPlace { place: p, state: s },
-    )
+    heap_done(sheet, out, text, n, list, session, p)
 }
 
-// The same in arrays as they are set up, which have room for n variables.
-fn heap_arrays(
+// The same in arrays of its own, which have room for VARS variables.
+fn in_own_arrays<const VARS: usize>(
     sheet: &[u8],
     out: &mut [u8],
     text: &mut [u8],
     n: u32,
-    lits: &[u32],
-    ends: &[u32],
-    values: &mut [u8],
-    levels: &mut [u32],
-    reasons: &mut [u32],
-    trail: &mut [u32],
-    opened: &mut [u32],
-    activity: &mut [f64],
-    heap: &mut [u32],
-    indices: &mut [u32],
-    decision: &mut [u8],
+    list: Clauses<'_>,
     p: Place,
 ) -> Both
-    requires room { Room sheet.now p out.old × (n ≤ number.max_vars) × GoodClauses n lits.now ends.now × (text_room n (length ends.now) (length lits.now) ≤ length text.old) }
-    requires blank { Blank n values.old levels.old reasons.old trail.old opened.old activity.old heap.old decision.old × (n ≤ length indices.old) }
-    ensures { Saves sheet.now p (spec.opened vsids n lits.now ends.now) out.old text.old result out.new text.new }
+    requires sizes { VARS ≤ number.max_vars + 16 }
+    requires vars { (n ≤ number.max_vars) × (n ≤ VARS) }
+    requires room { Room sheet.now p out.old × GoodClauses n list.lits.now list.ends.now × (text_room n (length list.ends.now) (length list.lits.now) ≤ length text.old) }
+    ensures { Saves sheet.now p (spec.opened vsids n list.entry.lits.now list.entry.ends.now) out.old text.old result out.new text.new }
 {
+    let mut values = [UNASSIGNED; VARS];
+    let mut levels = [NONE; VARS];
+    let mut reasons = [NONE; VARS];
+    let mut codes = [NONE; VARS];
+    let mut opened = [NONE; VARS];
+    let mut activity = [ZERO_ACTIVITY; VARS];
+    let mut heap = [NONE; VARS];
+    let mut indices = [NONE; VARS];
+    let mut decision = [ON; VARS];
     let k = n as usize;
-    heap_fresh(
-        sheet,
-        out,
-        text,
-        n,
-        lits,
-        ends,
-        &mut values[..k],
-        &mut levels[..k],
-        &mut reasons[..k],
-        &mut trail[..k],
-        &mut opened[..k],
-        &mut activity[..k],
-        &mut heap[..k],
-        &mut indices[..k],
-        &mut decision[..k],
-        p,
-    )
+    let members = &mut heap[..k];
+    let places = &mut indices[..k];
+    let at = all_members(members, places);
+    let mut session = HeapSession {
+        values: &mut values[..k],
+        levels: &mut levels[..k],
+        reasons: &mut reasons[..k],
+        trail: &mut codes[..k],
+        opened: &mut opened[..k],
+        activity: &mut activity[..k],
+        heap: members,
+        indices: places,
+        decision: &mut decision[..k],
+        at: HeapState {
+            trail: TrailState::default(),
+            vsids: at,
+        },
+    };
+    heap_fresh(sheet, out, text, n, list, &mut session, p)
 }
 
-// Does the lines of a new session of few variables, and saves it.
-fn heap_few(
-    sheet: &[u8],
-    out: &mut [u8],
-    text: &mut [u8],
-    n: u32,
-    lits: &[u32],
-    ends: &[u32],
-    p: Place,
-) -> Both
-    requires { Room sheet.now p out.old × (n ≤ size.few) × GoodClauses n lits.now ends.now × (text_room n (length ends.now) (length lits.now) ≤ length text.old) }
-    ensures { Saves sheet.now p (spec.opened vsids n lits.now ends.now) out.old text.old result out.new text.new }
-{
-    let mut values = [UNASSIGNED; FEW as usize];
-    let mut levels = [NONE; FEW as usize];
-    let mut reasons = [NONE; FEW as usize];
-    let mut trail = [NONE; FEW as usize];
-    let mut opened = [NONE; FEW as usize];
-    let mut activity = [ZERO_ACTIVITY; FEW as usize];
-    let mut heap = [NONE; FEW as usize];
-    let mut indices = [NONE; FEW as usize];
-    let mut decision = [ON; FEW as usize];
-    heap_arrays(
-        sheet,
-        out,
-        text,
-        n,
-        lits,
-        ends,
-        &mut values,
-        &mut levels,
-        &mut reasons,
-        &mut trail,
-        &mut opened,
-        &mut activity,
-        &mut heap,
-        &mut indices,
-        &mut decision,
-        p,
-    )
-}
-
-// The same with any number of variables.
+// Does the lines of a new session from a place on, and saves it.
 pub fn heap_new(
     sheet: &[u8],
     out: &mut [u8],
     text: &mut [u8],
     n: u32,
-    lits: &[u32],
-    ends: &[u32],
+    list: Clauses<'_>,
     p: Place,
 ) -> Both
-    requires { Room sheet.now p out.old × (n ≤ number.max_vars) × GoodClauses n lits.now ends.now × (text_room n (length ends.now) (length lits.now) ≤ length text.old) }
-    ensures { Saves sheet.now p (spec.opened vsids n lits.now ends.now) out.old text.old result out.new text.new }
+    requires { Room sheet.now p out.old × (n ≤ number.max_vars) × GoodClauses n list.lits.now list.ends.now × (text_room n (length list.ends.now) (length list.lits.now) ≤ length text.old) }
+    ensures { Saves sheet.now p (spec.opened vsids n list.entry.lits.now list.entry.ends.now) out.old text.old result out.new text.new }
 {
-    if n <= FEW {
-        return heap_few(sheet, out, text, n, lits, ends, p);
+    if n as usize <= FEW {
+        return in_own_arrays::<FEW>(sheet, out, text, n, list, p);
     }
-    let mut values = [UNASSIGNED; ALL as usize];
-    let mut levels = [NONE; ALL as usize];
-    let mut reasons = [NONE; ALL as usize];
-    let mut trail = [NONE; ALL as usize];
-    let mut opened = [NONE; ALL as usize];
-    let mut activity = [ZERO_ACTIVITY; ALL as usize];
-    let mut heap = [NONE; ALL as usize];
-    let mut indices = [NONE; ALL as usize];
-    let mut decision = [ON; ALL as usize];
-    heap_arrays(
-        sheet,
-        out,
-        text,
-        n,
-        lits,
-        ends,
-        &mut values,
-        &mut levels,
-        &mut reasons,
-        &mut trail,
-        &mut opened,
-        &mut activity,
-        &mut heap,
-        &mut indices,
-        &mut decision,
-        p,
-    )
+    in_own_arrays::<ALL>(sheet, out, text, n, list, p)
 }

@@ -1,18 +1,18 @@
 // A session in heap mode on a sheet, which is saved behind the last line.
 ghost use Rattle.std.specs.Prelude.{◌≤◌, length};
-ghost use Rattle.trail.specs.Memory.{trail_of};
-ghost use Rattle.vsids.specs.Vsids.{vsids_of};
-ghost use Rattle.heap_session.specs.Memory.{session_of};
+ghost use Rattle.heap_session.specs.Held.{vsids_held, trail_held, session_in};
 ghost use Rattle.heap_saved.specs.Reader.{Savable};
 ghost use Rattle.sheet.specs.Stages.{in_heap};
 ghost use Rattle.sheet.specs.Running.{Room};
 ghost use Rattle.saved_sheet.specs.Sheets.{text_room};
 ghost use Rattle.saved_run.specs.Ends.{Saves};
 
+use formula::Clauses;
 use heap_saved::saving::put_text;
-use heap_sheet::line::HeapPlace;
-use heap_sheet::run::heap_lines;
+use heap_session::HeapSession;
+use lines::lines;
 use saved_run::Both;
+use sheet::Place;
 
 // Does the lines that are left and answers them, and writes the text of the session that they leave.
 pub fn heap_done(
@@ -20,34 +20,16 @@ pub fn heap_done(
     out: &mut [u8],
     text: &mut [u8],
     n: u32,
-    lits: &[u32],
-    ends: &[u32],
-    values: &mut [u8],
-    levels: &mut [u32],
-    reasons: &mut [u32],
-    trail: &mut [u32],
-    opened: &mut [u32],
-    activity: &mut [f64],
-    heap: &mut [u32],
-    indices: &mut [u32],
-    decision: &mut [u8],
-    s: HeapPlace,
+    list: Clauses<'_>,
+    session: &mut HeapSession<'_>,
+    p: Place,
 ) -> Both
-    requires room { Room sheet.now s.place out.old × (text_room n (length ends.now) (length lits.now) ≤ length text.old) }
-    requires savable { Savable n (lits.now, ends.now, trail_of values.old levels.old reasons.old trail.old opened.old s.state.trail, vsids_of activity.old heap.old indices.old decision.old s.state.vsids) }
-    ensures { let before = session_of n (length ends.now) lits.now ends.now values.old levels.old reasons.old trail.old opened.old activity.old heap.old indices.old decision.old s.state in
-        Saves sheet.now s.place (in_heap n lits.now ends.now before) out.old text.old result out.new text.new }
+    requires room { Room sheet.now p out.old × (text_room n (length list.ends.now) (length list.lits.now) ≤ length text.old) }
+    requires savable { Savable n (list.lits.now, list.ends.now, trail_held session.old, vsids_held session.old) }
+    ensures { let lits = list.entry.lits.now in let ends = list.entry.ends.now in
+        Saves sheet.now p (in_heap n lits ends (session_in n (length ends) lits ends session.old)) out.old text.old result out.new text.new }
 {
-    let u = heap_lines(
-        sheet, out, n, lits, ends, values, levels, reasons, trail, opened, activity, heap, indices,
-        decision, s,
-    );
-    let place = u.place;
-    let length = put_text(
-        text, n, lits, ends, levels, reasons, trail, activity, heap, decision, u.state, true,
-    );
-    Both {
-        answers: place.at,
-        text: length,
-    }
+    let answers = lines(sheet, out, n, list, session, p).at;
+    let text = put_text(text, n, list, session.view());
+    Both { answers, text }
 }

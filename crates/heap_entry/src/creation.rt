@@ -1,13 +1,16 @@
 // The entry point that makes a session in heap mode. It checks the memory that was lent, and asks nothing of its callers.
 ghost use Rattle.std.specs.Prelude.{◌≡◌};
-ghost use Rattle.session.specs.Entry.{Answered};
+ghost use Rattle.lit.specs.Refusals.{status_of};
+ghost use Rattle.session.specs.Entry.{Answered, reply_of};
+ghost use Rattle.heap_session.specs.Held.{session_in, SameSlices};
 ghost use Rattle.heap_session.specs.Memory.{session_of};
 ghost use Rattle.heap_entry.specs.Entry.{made, blank};
 
 use crate::lengths_ok;
 use activity::Step;
-use heap_session::{HeapAnswer, HeapState, accept, refuse};
-use lit::NONE;
+use formula::Clauses;
+use heap_session::{HeapAnswer, HeapSession, HeapState};
+use lit::Refusal;
 use trail::TrailState;
 use vsids::VsidsState;
 
@@ -16,11 +19,7 @@ pub fn blank_state() -> HeapState
     ensures { result ≡ blank }
 {
     HeapState {
-        trail: TrailState {
-            len: 0,
-            level: 0,
-            curr_i: 0,
-        },
+        trail: TrailState::default(),
         vsids: VsidsState {
             len: 0,
             step: Step::fresh(),
@@ -28,22 +27,42 @@ pub fn blank_state() -> HeapState
     }
 }
 
-// A fresh session in slices that were lent: nothing is assigned, and every variable is a member with activity 0.
-pub fn fresh(
+// A fresh session in what was lent: nothing is assigned, and every variable is a member with activity 0. Or the first refusal that fits.
+pub fn fresh_session(
+    n: u32,
+    literals: u32,
+    clauses: u32,
+    list: Clauses<'_>,
+    session: &mut HeapSession<'_>,
+) -> Result<Option<u32>, Refusal>
+    ensures answered { let lits = list.entry.lits.now in let ends = list.entry.ends.now in
+        let held = session_in n clauses lits ends in
+        let before = held session.old in
+        Answered (made n clauses lits literals ends before) before (status_of result) (reply_of result) (held session.new) }
+    ensures same_slices { SameSlices session.old session.new }
+{
+    let lengths = lengths_ok(n, literals, clauses, list, session.view(), true);
+    session::entry::size_refusal(n, lengths, list)?;
+    session.make_fresh();
+    Ok(None)
+}
+
+// The same in flat slices.
+pub fn fresh<'a>(
     n: u32,
     literals: u32,
     clauses: u32,
     lits: &[u32],
     ends: &[u32],
-    values: &mut [u8],
-    levels: &mut [u32],
-    reasons: &mut [u32],
-    trail: &mut [u32],
-    opened: &mut [u32],
-    activity: &mut [f64],
-    heap: &mut [u32],
-    indices: &mut [u32],
-    decision: &mut [u8],
+    values: &'a mut [u8],
+    levels: &'a mut [u32],
+    reasons: &'a mut [u32],
+    trail: &'a mut [u32],
+    opened: &'a mut [u32],
+    activity: &'a mut [f64],
+    heap: &'a mut [u32],
+    indices: &'a mut [u32],
+    decision: &'a mut [u8],
 ) -> HeapAnswer
     ensures { let before = session_of n clauses lits.now ends.now
         values.old levels.old reasons.old trail.old opened.old
@@ -53,15 +72,19 @@ pub fn fresh(
         activity.new heap.new indices.new decision.new result.state in
         Answered (made n clauses lits.now literals ends.now before) before result.status result.reply after }
 {
-    let lengths = lengths_ok(
-        n, literals, clauses, lits, ends, values, levels, reasons, trail, opened, activity, heap,
-        indices, decision, true,
-    );
-    let k = session::entry::size_refusal(n, lengths, lits, ends);
-    if k != 0 {
-        return refuse(k, blank_state());
-    }
-    let t = trail::new_trail(values, levels, reasons, trail, opened);
-    let h = vsids::new(activity, heap, indices, decision);
-    accept(NONE, HeapState { trail: t, vsids: h })
+    let mut session = HeapSession {
+        values,
+        levels,
+        reasons,
+        trail,
+        opened,
+        activity,
+        heap,
+        indices,
+        decision,
+        at: blank_state(),
+    };
+    let list = Clauses { lits, ends };
+    let given = fresh_session(n, literals, clauses, list, &mut session);
+    HeapAnswer::of(given, session.at)
 }

@@ -1,5 +1,6 @@
 -- Reading a saved session in heap mode: the rows from which trail and heap are restored, and what was read where they have no room. Assumes nothing.
-use Rattle.std.specs.Prelude.{ℕ, ◌<◌, ◌≤◌, ◌≡◌, refl, Bool, true, false, List, [], ◌∷◌, ◌++◌, length, get_or, take, Float}
+use Rattle.std.specs.Prelude.{ℕ, ◌<◌, ◌≤◌, ◌≡◌, refl, Bool, true, false, List, [], ◌∷◌, ◌++◌, length, get_or, take, Float, Some, None, Result, Ok, Err, is_ok}
+use Rattle.std.specs.Prelude as code
 use Rattle.std.proofs.Common.{sym, ap, subst, ◌∙◌, arith, le-leb, take_at}
 use Rattle.std.proofs.lemmas.Bool.{false≢true}
 use Rattle.std.proofs.Math.Option.{Option, none, some}
@@ -15,13 +16,14 @@ use Rattle.vsids.specs.Vsids.{Vsids, vsids_of}
 use Rattle.vmtf.specs.Vmtf.{Vars}
 use Rattle.heap_session.specs.declared.HeapState.{HeapState}
 use Rattle.heap_session.specs.Check.{state_ok}
+use Rattle.heap_entry.specs.Entry.{blank}
 use Rattle.forms.specs.Forms.{vsids, Opening}
 use Rattle.saved_text.specs.declared.form.Clauses.{Clauses}
 use Rattle.saved_text.specs.declared.form.TrailRows.{TrailRows}
+use Rattle.saved_text.specs.declared.form.HeapText.{HeapText}
 use Rattle.saved_text.specs.declared.form.HeapRows.{HeapRows}
 use Rattle.saved_text.specs.Saved.{switch, Fits, Saved, WellFormed}
 use Rattle.saved_text.specs.Greatest.{greatest}
-use Rattle.saved_text.specs.declared.form.HeapText.TheVariants as a-heap-text
 use Rattle.saved_text.specs.Reading.{read_text}
 use Rattle.saved_text.specs.Form.{Told, HeapTold, OpensWith, opened}
 use Rattle.saved_text.specs.FormLaws.{opens_said}
@@ -33,10 +35,11 @@ use Rattle.saved_state.specs.OfTrail.{each_code, codes_back}
 use Rattle.saved_state.specs.OfHeap.{each_member, heap_back}
 use Rattle.saved_state.specs.Judged.{ClausesSaid}
 use Rattle.saved_state.specs.Sound.{state_test}
-use Rattle.saved_state.specs.Judging.{clauses_good, fitting, LoadedIs, ends_length, clauses_judged, fronts_apart, front_all, front_part, front_one, front_two, codes_below, below_codes, fitting_says}
-use Rattle.heap_saved.specs.declared.loading.Loaded.{Loaded}
-use Rattle.heap_saved.specs.declared.loading.Loading as loading
-use Rattle.heap_saved.specs.declared.loading.Loading.TheVariants as a-session
+use Rattle.saved_state.specs.Entry.{Reader}
+use Rattle.saved_state.specs.Judging.{clauses_fit, clauses_good, fitting, LoadedIs, ends_length, clauses_judged, fronts_apart, front_all, front_part, front_one, front_two, codes_below, below_codes, fitting_says}
+use Rattle.saved_state.specs.declared.judging.Loaded.{Loaded}
+use Rattle.saved_state.specs.declared.judging.Unfit.{Unfit}
+use Rattle.saved_state.specs.declared.judging.Unfit.TheVariants as a-reason
 use Rattle.heap_saved.specs.Reader.{heap_reader}
 use Rattle.heap_saved.specs.Sound.{tests_right}
 
@@ -155,20 +158,21 @@ module _ {s : Saved} {n : ℕ} {c : Clauses} {t : TrailRows} (h : HeapRows) {lit
 
 -- what the reader of a text says of its bytes
 pub told_of : {text : List ℕ} {at n : ℕ} → OpensWith text at (opened n false) → (c : Clauses) (t : TrailRows) (h : HeapRows) (lits ends trail levels reasons heap bits switches : List ℕ)
-    → HeapTold (read_text text) (a-heap-text.Is c t h) lits ends trail levels reasons heap bits switches
+    → HeapTold (read_text text) (Some (record { clauses = c; trail = t; heap = h })) lits ends trail levels reasons heap bits switches
     → (s : Saved) × (read_text text ≡ some s) × WellFormed s × (s.opening.mode ≡ vsids) × (s.opening.vars ≡ n)
     × Told s c t h.count h.greatest lits ends trail (levels ∷ reasons ∷ (t.curr ∷ []) ∷ heap ∷ bits ∷ switches ∷ (h.inc ∷ h.decay ∷ []) ∷ [])
 told_of {text} {at} {n} w c t h lits ends trail levels reasons heap bits switches = go (read_text text) refl
   where
-    go : (o : Option Saved) → read_text text ≡ o → HeapTold o (a-heap-text.Is c t h) lits ends trail levels reasons heap bits switches
+    go : (o : Option Saved) → read_text text ≡ o → HeapTold o (Some (record { clauses = c; trail = t; heap = h })) lits ends trail levels reasons heap bits switches
         → (s : Saved) × (o ≡ some s) × WellFormed s × (s.opening.mode ≡ vsids) × (s.opening.vars ≡ n)
         × Told s c t h.count h.greatest lits ends trail (levels ∷ reasons ∷ (t.curr ∷ []) ∷ heap ∷ bits ∷ switches ∷ (h.inc ∷ h.decay ∷ []) ∷ [])
     go none e k = let z : ◌≡◌ {A = ℕ} 0 1 = cc in absurd (omega arith)
     go (some s) e (c', t', h', same, told) =
         let x = opens_said w s e in
-        let cs : c' ≡ c = cc in
-        let ts : t' ≡ t = cc in
-        let hs : h' ≡ h = cc in (
+        let those : ◌≡◌ {A = HeapText} (record { clauses = c'; trail = t'; heap = h' }) (record { clauses = c; trail = t; heap = h }) = cc in
+        let cs : c' ≡ c = ap (λ (x : HeapText). x.clauses) those in
+        let ts : t' ≡ t = ap (λ (x : HeapText). x.trail) those in
+        let hs : h' ≡ h = ap (λ (x : HeapText). x.heap) those in (
           s,
           refl,
           x.0,
@@ -179,14 +183,19 @@ told_of {text} {at} {n} w c t h lits ends trail levels reasons heap bits switche
               (subst (λ (k : HeapRows). Told s c' t' k.count k.greatest lits ends trail (levels ∷ reasons ∷ (t'.curr ∷ []) ∷ heap ∷ bits ∷ switches ∷ (k.inc ∷ k.decay ∷ []) ∷ [])) hs told)),
         )
 
+-- the small states, where they were restored
+abbrev pub state_in : Result HeapState Unfit → HeapState
+state_in (Ok s) = s
+state_in (Err e) = blank
+
 -- What was loaded of what bytes say, as code has it.
-abbrev pub Loads : Option Saved → loading.Loading → (lits ends values levels reasons trail opened : List ℕ) (activity : List Float) (heap indices decision : List ℕ) → Type 0
-Loads none r lits ends values levels reasons trail opened activity heap indices decision = r ≡ a-session.Bad
-Loads (some s) r lits ends values levels reasons trail opened activity heap indices decision = (l : Loaded) × (r ≡ a-session.Is l)
-    × LoadedIs heap_reader s l.literals l.clauses l.good l.passed lits ends (trail_of values levels reasons trail opened l.state.trail) (vsids_of activity heap indices decision l.state.vsids)
+abbrev pub Loads : Option Saved → code.Option (Loaded HeapState) → (lits ends values levels reasons trail opened : List ℕ) (activity : List Float) (heap indices decision : List ℕ) → Type 0
+Loads none r lits ends values levels reasons trail opened activity heap indices decision = r ≡ None
+Loads (some s) r lits ends values levels reasons trail opened activity heap indices decision = (l : Loaded HeapState) × (r ≡ Some l)
+    × LoadedIs heap_reader s l.literals l.clauses (clauses_fit l.state) (is_ok l.state) lits ends (trail_of values levels reasons trail opened (state_in l.state).trail) (vsids_of activity heap indices decision (state_in l.state).vsids)
 
 -- lists of n places in front of others
-pub loads_front : (o : Option Saved) (r : loading.Loading) (n : ℕ) (lits ends values levels reasons trail opened : List ℕ) (activity : List Float) (heap indices decision : List ℕ)
+pub loads_front : (o : Option Saved) (r : code.Option (Loaded HeapState)) (n : ℕ) (lits ends values levels reasons trail opened : List ℕ) (activity : List Float) (heap indices decision : List ℕ)
     → Lengths n values levels reasons trail opened → (length activity ≡ n) × (length heap ≡ n) × (length indices ≡ n) × (length decision ≡ n)
     → (values' levels' reasons' trail' opened' : List ℕ) (activity' : List Float) (heap' indices' decision' : List ℕ) → Loads o r lits ends values levels reasons trail opened activity heap indices decision
     → Loads o r lits ends (take n (values ++ values')) (take n (levels ++ levels')) (take n (reasons ++ reasons')) (take n (trail ++ trail')) (take n (opened ++ opened'))
@@ -204,15 +213,27 @@ loads_front o r n lits ends values levels reasons trail opened activity heap ind
       take_at decision decision' n d,
     ) k
 
-pub loads_none : (o : Option Saved) (lits ends trail levels reasons heap bits switches : List ℕ) → HeapTold o a-heap-text.Bad lits ends trail levels reasons heap bits switches → o ≡ none
+pub loads_none : (o : Option Saved) (lits ends trail levels reasons heap bits switches : List ℕ) → HeapTold o None lits ends trail levels reasons heap bits switches → o ≡ none
 loads_none none lits ends trail levels reasons heap bits switches k = refl
 loads_none (some s) lits ends trail levels reasons heap bits switches (c, t, h, same, told) = let z : ◌≡◌ {A = ℕ} 0 1 = cc in absurd (omega arith)
 
-abbrev loaded_with : Clauses → HeapState → Bool → Bool → Loaded
-loaded_with c state good passed = record { clauses = c.count; literals = c.literals; good = good; passed = passed; state = state }
+abbrev pub loaded_with : Clauses → Result HeapState Unfit → Loaded HeapState
+loaded_with c state = record { clauses = c.count; literals = c.literals; state = state }
+
+-- what is not passed leaves its memory open
+unpassed : {C : Type 0} {R : Reader C} {s : Saved} {l c : ℕ} {good : Bool} {lits ends : List ℕ} {t t' : Trail} {x x' : C} → LoadedIs R s l c good false lits ends t x → LoadedIs R s l c good false lits ends t' x'
+unpassed i = record {
+  literal_count = i.literal_count;
+  clause_count = i.clause_count;
+  good_clauses = i.good_clauses;
+  held = i.held;
+  state_passed = i.state_passed;
+  trail_said_lem = λ q. absurd (false≢true q);
+  chooser_said = λ q. absurd (false≢true q);
+}
 
 module _ {text : List ℕ} {at n : ℕ} (w : OpensWith text at (opened n false)) (small : n ≤ max_vars) (c : Clauses) (t : TrailRows) (h : HeapRows) (lits ends trail levels reasons heap bits switches : List ℕ)
-    (k : HeapTold (read_text text) (a-heap-text.Is c t h) lits ends trail levels reasons heap bits switches) where
+    (k : HeapTold (read_text text) (Some (record { clauses = c; trail = t; heap = h })) lits ends trail levels reasons heap bits switches) where
   -- what restoring needs
   pub loads_ready : fitting n t.count t.greatest h.count h.greatest ≡ true → length trail ≡ n → length levels ≡ n → length reasons ≡ n → length heap ≡ n → length bits ≡ n → length switches ≡ n
       → {m : ℕ} → m ≡ n → (s : Saved) × Ready s m t h trail levels reasons heap bits switches
@@ -220,24 +241,33 @@ module _ {text : List ℕ} {at n : ℕ} (w : OpensWith text at (opened n false))
       let x = told_of w c t h lits ends trail levels reasons heap bits switches k in
       (x.0, ready_for (sym same) (ready h x.2 x.3 x.4 small x.5 fit a b d e f g))
 
-  module _ (values' levels' reasons' trail' opened' : List ℕ) (activity' : List Float) (heap' indices' decision' : List ℕ) (state : HeapState) where
-    pub loads_bad : clauses_good n c.count c.literals c.greatest ≡ false → Loads (read_text text) (a-session.Is (loaded_with c state false false)) lits ends values' levels' reasons' trail' opened' activity' heap' indices' decision'
+  module _ (values' levels' reasons' trail' opened' : List ℕ) (activity' : List Float) (heap' indices' decision' : List ℕ) where
+    abbrev These : Result HeapState Unfit → Type 0
+    These state = Loads (read_text text) (Some (loaded_with c state)) lits ends values' levels' reasons' trail' opened' activity' heap' indices' decision'
+
+    pub loads_bad : clauses_good n c.count c.literals c.greatest ≡ false → These (Err a-reason.Clauses)
     loads_bad e =
         let x = told_of w c t h lits ends trail levels reasons heap bits switches k in
-        rw x.1 (loaded_with c state false false, refl, loaded_bad h x.2 x.3 x.4 small x.5 _ _ e)
+        rw x.1 (loaded_with c (Err a-reason.Clauses), refl, loaded_bad h x.2 x.3 x.4 small x.5 _ _ e)
 
     module _ (good : clauses_good n c.count c.literals c.greatest ≡ true) where
-      pub loads_unfit : fitting n t.count t.greatest h.count h.greatest ≡ false → Loads (read_text text) (a-session.Is (loaded_with c state true false)) lits ends values' levels' reasons' trail' opened' activity' heap' indices' decision'
+      pub loads_unfit : fitting n t.count t.greatest h.count h.greatest ≡ false → These (Err a-reason.State)
       loads_unfit e =
           let x = told_of w c t h lits ends trail levels reasons heap bits switches k in
-          rw x.1 (loaded_with c state true false, refl, loaded_unfit h x.2 x.3 x.4 small x.5 _ _ good e)
+          rw x.1 (loaded_with c (Err a-reason.State), refl, loaded_unfit h x.2 x.3 x.4 small x.5 _ _ good e)
 
-      pub loads_all : fitting n t.count t.greatest h.count h.greatest ≡ true → length trail ≡ n → length levels ≡ n → length reasons ≡ n → length heap ≡ n → length bits ≡ n → length switches ≡ n
-          → {m : ℕ} → m ≡ n
-          → ((s : Saved) → Ready s m t h trail levels reasons heap bits switches → (trail_of values' levels' reasons' trail' opened' state.trail ≡ trail_said s) × (vsids_of activity' heap' indices' decision' state.vsids ≡ heap_said s))
-          → {passed : Bool} → passed ≡ state_ok c.count (trail_of values' levels' reasons' trail' opened' state.trail) (vsids_of activity' heap' indices' decision' state.vsids)
-          → Loads (read_text text) (a-session.Is (loaded_with c state true passed)) lits ends values' levels' reasons' trail' opened' activity' heap' indices' decision'
-      loads_all fit a b d e f g same restored {passed} passes =
-          let x = told_of w c t h lits ends trail levels reasons heap bits switches k in
-          let is = restored x.0 (ready_for (sym same) (ready h x.2 x.3 x.4 small x.5 fit a b d e f g)) in
-          rw x.1 (loaded_with c state true passed, refl, loaded_all h x.2 x.3 x.4 small x.5 _ _ good fit is.0 is.1 passes)
+      module _ (fit : fitting n t.count t.greatest h.count h.greatest ≡ true) (a : length trail ≡ n) (b : length levels ≡ n) (d : length reasons ≡ n) (e : length heap ≡ n) (f : length bits ≡ n) (g : length switches ≡ n)
+          {m : ℕ} (same : m ≡ n) {state : HeapState}
+          (restored : (s : Saved) → Ready s m t h trail levels reasons heap bits switches → (trail_of values' levels' reasons' trail' opened' state.trail ≡ trail_said s) × (vsids_of activity' heap' indices' decision' state.vsids ≡ heap_said s)) where
+        loads_checked : {passed : Bool} → passed ≡ state_ok c.count (trail_of values' levels' reasons' trail' opened' state.trail) (vsids_of activity' heap' indices' decision' state.vsids)
+            → (s : Saved) × (read_text text ≡ some s) × LoadedIs heap_reader s c.literals c.count true passed lits ends (trail_of values' levels' reasons' trail' opened' state.trail) (vsids_of activity' heap' indices' decision' state.vsids)
+        loads_checked passes =
+            let x = told_of w c t h lits ends trail levels reasons heap bits switches k in
+            let is = restored x.0 (ready_for (sym same) (ready h x.2 x.3 x.4 small x.5 fit a b d e f g)) in
+            (x.0, x.1, loaded_all h x.2 x.3 x.4 small x.5 _ _ good fit is.0 is.1 passes)
+
+        pub loads_all : true ≡ state_ok c.count (trail_of values' levels' reasons' trail' opened' state.trail) (vsids_of activity' heap' indices' decision' state.vsids) → These (Ok state)
+        loads_all passes = let x = loads_checked passes in rw x.1 (loaded_with c (Ok state), refl, x.2)
+
+        pub loads_failed : false ≡ state_ok c.count (trail_of values' levels' reasons' trail' opened' state.trail) (vsids_of activity' heap' indices' decision' state.vsids) → These (Err a-reason.State)
+        loads_failed fails = let x = loads_checked fails in rw x.1 (loaded_with c (Err a-reason.State), refl, unpassed x.2)

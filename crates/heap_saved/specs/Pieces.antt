@@ -17,6 +17,7 @@ use Rattle.session.specs.Mode.{lengths_ok}
 use Rattle.session.proofs.Entered.{passed_good}
 use Rattle.choosers.specs.Heap.{heap_ops}
 use Rattle.heap_session.specs.declared.HeapState.{HeapState}
+use Rattle.heap_session.specs.declared.HeapView.{HeapView}
 use Rattle.heap_session.specs.Good.{GoodSession}
 use Rattle.heap_session.specs.Check.{state_ok}
 use Rattle.heap_entry.specs.Entry.{heap_mode}
@@ -117,6 +118,16 @@ session_lines {n} {lits} {ends} {values} {levels} {reasons} {trail} {opened} {ac
       short = rw (session_text_lem n lits ends values levels reasons trail opened activity heap indices decision s) at
           (text_length n lits ends (trail_of values levels reasons trail opened s.trail) (vsids_of activity heap indices decision s.vsids) (g, double));
     }
+
+-- both of a session that is looked at
+abbrev pub state_seen : HeapView → HeapState
+state_seen v = record { trail = v.trail.at; vsids = v.vsids.at }
+
+abbrev pub text_seen : ℕ → List ℕ → List ℕ → HeapView → List ℕ
+text_seen n lits ends v = session_text n lits ends v.trail.levels.now v.trail.reasons.now v.trail.codes.now v.vsids.activity.now v.vsids.heap.now v.vsids.decision.now (state_seen v)
+
+abbrev pub LinesSeen : ℕ → List ℕ → List ℕ → HeapView → Type 0
+LinesSeen n lits ends v = Lines n lits ends v.trail.levels.now v.trail.reasons.now v.trail.codes.now v.vsids.activity.now v.vsids.heap.now v.vsids.decision.now (state_seen v)
 
 -- Memory that was lent and not refused is a session that can be written, as its types say of its doubles.
 pub lent_savable : (n m : ℕ) (lits : List ℕ) (literals : ℕ) (ends : List ℕ) (s : Session n m (heap_ops n lits ends))

@@ -1,5 +1,5 @@
 -- Reading a saved session in heap mode into lent memory: what was loaded tells the answer, and what is then copied is what the text says. Assumes nothing.
-use Rattle.std.specs.Prelude.{ℕ, ◌≤◌, ◌<◌, ◌≡◌, refl, Bool, true, false, ◌&&◌, List, Float, length, take}
+use Rattle.std.specs.Prelude.{ℕ, ◌≤◌, ◌<◌, ◌≡◌, refl, Bool, true, false, ◌&&◌, List, Float, length, take, Some, None, is_ok}
 use Rattle.std.proofs.Common.{sym, ap, subst, ◌∙◌, arith}
 use Rattle.std.proofs.Math.Option.{Option, none, some}
 use Rattle.lit.specs.Numbers.{NONE, max_vars, max_clauses, max_literals, many_vars, bad_length, bad_saved}
@@ -20,19 +20,19 @@ use Rattle.saved_text.specs.Form.{OpensWith, opened}
 use Rattle.saved_text.specs.FormLaws.{opens_said}
 use Rattle.saved_state.specs.Said.{lits_said, ends_said}
 use Rattle.saved_state.specs.Entry.{same_mode, Memory, read}
-use Rattle.saved_state.specs.Judging.{form_or, LoadedIs, ends_length}
+use Rattle.saved_state.specs.Judging.{clauses_fit, form_or, LoadedIs, ends_length}
 use Rattle.saved_state.specs.Answering.{read_refused, read_taken, read_own, read_none, read_other, read_form, read_many, read_unlike}
-use Rattle.heap_saved.specs.declared.loading.Loaded.{Loaded}
-use Rattle.heap_saved.specs.declared.loading.Loading.TheVariants as a-session
+use Rattle.heap_session.specs.declared.HeapState.{HeapState}
+use Rattle.saved_state.specs.declared.judging.Loaded.{Loaded}
 use Rattle.heap_saved.specs.Reader.{heap_reader}
-use Rattle.heap_saved.specs.Loading.{Loads}
+use Rattle.heap_saved.specs.Loading.{state_in, Loads}
 
 -- bytes that say nothing are refused
 pub answers_none : (text : List ℕ) (before : Memory Vsids) (lits ends values levels reasons trail levelled : List ℕ) (activity : List Float) (heap indices decision : List ℕ)
-    → Loads (read_text text) a-session.Bad lits ends values levels reasons trail levelled activity heap indices decision → Answered (read heap_reader text before) before bad_saved NONE before
+    → Loads (read_text text) None lits ends values levels reasons trail levelled activity heap indices decision → Answered (read heap_reader text before) before bad_saved NONE before
 answers_none text before lits ends values levels reasons trail levelled activity heap indices decision k = read_none heap_reader text before (go (read_text text) k)
   where
-    go : (o : Option Saved) → Loads o a-session.Bad lits ends values levels reasons trail levelled activity heap indices decision → o ≡ none
+    go : (o : Option Saved) → Loads o None lits ends values levels reasons trail levelled activity heap indices decision → o ≡ none
     go none m = refl
     go (some s) (l, same, is) = let z : ◌≡◌ {A = ℕ} 0 1 = cc in absurd (omega arith)
 
@@ -55,25 +55,25 @@ module _ {text : List ℕ} {at n : ℕ} (w : OpensWith text at (opened n false))
       let vars = ap (λ (o : Opening). o.vars) o in
       read_unlike heap_reader text before s is (ap (λ (o : Opening). o.mode) o) (omega (arith, few, vars)) (λ b. rw vars (unlike b)))
 
-module _ {text : List ℕ} {at n : ℕ} (w : OpensWith text at (opened n false)) (l : Loaded) (lits ends values levels reasons trail levelled : List ℕ) (activity : List Float) (heap indices decision : List ℕ)
-    (k : Loads (read_text text) (a-session.Is l) lits ends values levels reasons trail levelled activity heap indices decision) where
+module _ {text : List ℕ} {at n : ℕ} (w : OpensWith text at (opened n false)) (l : Loaded HeapState) (lits ends values levels reasons trail levelled : List ℕ) (activity : List Float) (heap indices decision : List ℕ)
+    (k : Loads (read_text text) (Some l) lits ends values levels reasons trail levelled activity heap indices decision) where
   -- what was loaded is what the text says
   pub loaded_some : (s : Saved) × (read_text text ≡ some s) × (s.opening.mode ≡ vsids) × (s.opening.vars ≡ n)
-      × LoadedIs heap_reader s l.literals l.clauses l.good l.passed lits ends (trail_of values levels reasons trail levelled l.state.trail) (vsids_of activity heap indices decision l.state.vsids)
+      × LoadedIs heap_reader s l.literals l.clauses (clauses_fit l.state) (is_ok l.state) lits ends (trail_of values levels reasons trail levelled (state_in l.state).trail) (vsids_of activity heap indices decision (state_in l.state).vsids)
   loaded_some = go (read_text text) refl k
     where
-      go : (o : Option Saved) → read_text text ≡ o → Loads o (a-session.Is l) lits ends values levels reasons trail levelled activity heap indices decision
+      go : (o : Option Saved) → read_text text ≡ o → Loads o (Some l) lits ends values levels reasons trail levelled activity heap indices decision
           → (s : Saved) × (o ≡ some s) × (s.opening.mode ≡ vsids) × (s.opening.vars ≡ n)
-          × LoadedIs heap_reader s l.literals l.clauses l.good l.passed lits ends (trail_of values levels reasons trail levelled l.state.trail) (vsids_of activity heap indices decision l.state.vsids)
+          × LoadedIs heap_reader s l.literals l.clauses (clauses_fit l.state) (is_ok l.state) lits ends (trail_of values levels reasons trail levelled (state_in l.state).trail) (vsids_of activity heap indices decision (state_in l.state).vsids)
       go none e m = let z : ◌≡◌ {A = ℕ} 0 1 = cc in absurd (omega arith)
       go (some s) e (l', same, is) =
           let x = opens_said w s e in
           let those : l' ≡ l = cc in
-          (s, refl, ap (λ (o : Opening). o.mode) x.1, ap (λ (o : Opening). o.vars) x.1, subst (λ (m : Loaded). LoadedIs heap_reader s m.literals m.clauses m.good m.passed lits ends (trail_of values levels reasons trail levelled m.state.trail) (vsids_of activity heap indices decision m.state.vsids)) those is)
+          (s, refl, ap (λ (o : Opening). o.mode) x.1, ap (λ (o : Opening). o.vars) x.1, subst (λ (m : Loaded HeapState). LoadedIs heap_reader s m.literals m.clauses (clauses_fit m.state) (is_ok m.state) lits ends (trail_of values levels reasons trail levelled (state_in m.state).trail) (vsids_of activity heap indices decision (state_in m.state).vsids)) those is)
 
   module _ (before : Memory Vsids) (sized : Sized n before.2) (heap_sized : HeapSized n before.3) where
     abbrev refusal : ℕ
-    refusal = state_refusal n (clause_lengths l.literals l.clauses before.0 before.1) l.good l.passed
+    refusal = state_refusal n (clause_lengths l.literals l.clauses before.0 before.1) (clauses_fit l.state) (is_ok l.state)
 
     pub answers_refused : {v : ℕ} → v ≡ refusal → (v ≡ 0 → ⊥) → Answered (read heap_reader text before) before v NONE before
     answers_refused {v} e z =
@@ -81,25 +81,25 @@ module _ {text : List ℕ} {at n : ℕ} (w : OpensWith text at (opened n false))
         let s = x.0 in
         let t = subst (λ (m : ℕ). Sized m before.2) (sym x.3) sized in
         let h = subst (λ (m : ℕ). HeapSized m before.3) (sym x.3) heap_sized in
-        rw (read_own heap_reader text before s x.1 x.2) (read_refused heap_reader before x.4 (sized_trail s.opening.vars before.2 t) (sized_heap s.opening.vars before.3 h) (e ∙ ap (λ (m : ℕ). state_refusal m (clause_lengths l.literals l.clauses before.0 before.1) l.good l.passed) (sym x.3)) z)
+        rw (read_own heap_reader text before s x.1 x.2) (read_refused heap_reader before x.4 (sized_trail s.opening.vars before.2 t) (sized_heap s.opening.vars before.3 h) (e ∙ ap (λ (m : ℕ). state_refusal m (clause_lengths l.literals l.clauses before.0 before.1) (clauses_fit l.state) (is_ok l.state)) (sym x.3)) z)
 
     module _ (none-fits : 0 ≡ refusal) where
       -- the counts are those of the slices, and within the limits
       pub counts_fit : (length before.0 ≡ l.literals) × (length before.1 ≡ l.clauses) × (l.literals ≤ max_literals) × (l.clauses ≤ max_clauses)
       counts_fit =
           let x = loaded_some in
-          let p = state_passed n (clause_lengths l.literals l.clauses before.0 before.1) l.good l.passed none-fits in
+          let p = state_passed n (clause_lengths l.literals l.clauses before.0 before.1) (clauses_fit l.state) (is_ok l.state) none-fits in
           let lengths = both _ _ _ _ p.0.lengths_ok_lem in
           let g = (clauses_facts x.0.opening.vars (lits_said x.0) (ends_said x.0)).0 (sym x.4.good_clauses ∙ p.0.clauses_ok_lem) in
           (lengths.0, lengths.1, omega (arith, g.list.few_literals_lem, x.4.literal_count), omega (arith, g.list.few_clauses, x.4.clause_count))
 
       pub answers_taken : l.literals ≤ length lits → l.clauses ≤ length ends → (after : Memory Vsids) → after.0 ≡ take l.literals lits → after.1 ≡ take l.clauses ends
-          → after.2 ≡ trail_of values levels reasons trail levelled l.state.trail → after.3 ≡ vsids_of activity heap indices decision l.state.vsids → Answered (read heap_reader text before) before 0 NONE after
+          → after.2 ≡ trail_of values levels reasons trail levelled (state_in l.state).trail → after.3 ≡ vsids_of activity heap indices decision (state_in l.state).vsids → Answered (read heap_reader text before) before 0 NONE after
       answers_taken more-lits more-ends after a b c d =
           let x = loaded_some in
           let s = x.0 in
           let i = x.4 in
-          let p = state_passed n (clause_lengths l.literals l.clauses before.0 before.1) l.good l.passed none-fits in
+          let p = state_passed n (clause_lengths l.literals l.clauses before.0 before.1) (clauses_fit l.state) (is_ok l.state) none-fits in
           let t = subst (λ (m : ℕ). Sized m before.2) (sym x.3) sized in
           let h = subst (λ (m : ℕ). HeapSized m before.3) (sym x.3) heap_sized in
           let count : l.clauses ≡ length s.clauses = i.clause_count ∙ ends_length 0 s.clauses in
@@ -107,4 +107,4 @@ module _ {text : List ℕ} {at n : ℕ} (w : OpensWith text at (opened n false))
           let those : after.1 ≡ ends_said s = b ∙ ap (λ (m : ℕ). take m ends) count ∙ i.held.ends_held (omega (arith, i.literal_count)) (omega (arith, count)) in
           let at-trail = c ∙ i.trail_said_lem p.1 in
           let at-heap = d ∙ i.chooser_said p.1 in
-          rw (read_own heap_reader text before s x.1 x.2) (read_taken heap_reader before i (sized_trail s.opening.vars before.2 t) (sized_heap s.opening.vars before.3 h) (none-fits ∙ ap (λ (m : ℕ). state_refusal m (clause_lengths l.literals l.clauses before.0 before.1) l.good l.passed) (sym x.3)) (λ j. (codes j, those j, at-trail j, at-heap j)))
+          rw (read_own heap_reader text before s x.1 x.2) (read_taken heap_reader before i (sized_trail s.opening.vars before.2 t) (sized_heap s.opening.vars before.3 h) (none-fits ∙ ap (λ (m : ℕ). state_refusal m (clause_lengths l.literals l.clauses before.0 before.1) (clauses_fit l.state) (is_ok l.state)) (sym x.3)) (λ j. (codes j, those j, at-trail j, at-heap j)))

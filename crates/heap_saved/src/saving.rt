@@ -1,187 +1,107 @@
-// The text of a session in heap mode, which is written or only counted.
-ghost use Rattle.std.specs.Prelude.{◌≡◌, ◌≤◌, leb, length};
-ghost use Rattle.saved_text.specs.Puts.{Puts, Room};
-ghost use Rattle.saved_state.specs.Pieces.{few};
-ghost use Rattle.heap_saved.specs.Pieces.{heap_text, session_text, HeapLines, Lines};
+// The text of a session in heap mode, which goes to a buffer or is only counted.
+ghost use Rattle.std.specs.Prelude.{◌≡◌, ◌+◌, ◌≤◌, leb, length, take};
+ghost use Rattle.lit.specs.Numbers.{max_vars};
+ghost use Rattle.forms.specs.Written.{Wrote};
+ghost use Rattle.heap_saved.specs.Pieces.{heap_text, HeapLines, text_seen, LinesSeen};
 
-use activity::Step;
 use forms::letters::VSIDS;
-use heap_session::HeapState;
+use formula::Clauses;
+use heap_session::HeapView;
 use lit::NONE;
 use saved_state::saving::{ALL, FEW, longest, put_front};
 use saved_state::writing::{patterns, widened};
 use saved_text::letters::{ACTIVITIES, MEMBERS, STEP, SWITCHES};
-use saved_text::writing::{Kind, put_longs, put_words};
+use saved_text::number::{Long, Word};
+use saved_text::sink::{Buffer, Count, Sink};
+use vsids::heap_check::VsidsView;
 
 // The lines of the heap: its members, the activities and the switches of the variables, step and decay.
-fn put_heap(
-    out: &mut [u8],
-    at: usize,
-    members: &[u32],
-    activity: &[f64],
-    decision: &[u8],
-    step: Step,
-    words: &mut [u32],
-    longs: &mut [u64],
-    write: bool,
-) -> usize
-    requires heap_lines { HeapLines (length activity.now) members.now activity.now decision.now step × (length words.old ≡ length decision.now) × (length longs.old ≡ length activity.now) }
-    requires room { Room write at (heap_text members.now activity.now decision.now step) out.old }
-    ensures { Puts write at (heap_text members.now activity.now decision.now step) out.old out.new result }
+fn put_heap<S: Sink>(sink: &mut S, h: VsidsView<'_>, words: &mut [u32], longs: &mut [u64])
+    requires heap_lines { (h.at.len ≤ length h.heap.now) × HeapLines (length h.activity.now) (take h.at.len h.heap.now) h.activity.now h.decision.now h.at.step × (length words.old ≡ length h.decision.now) × (length longs.old ≡ length h.activity.now) }
+    requires room { S.room sink.old (heap_text (take h.at.len h.heap.now) h.activity.now h.decision.now h.at.step) }
+    ensures { let at = h.entry.at in
+        S.puts sink.old (heap_text (take at.len h.entry.heap.now) h.entry.activity.now h.entry.decision.now at.step) sink.new }
 {
-    let pair = [f64::to_bits(step.inc), f64::to_bits(step.decay)];
-    widened(decision, words);
-    patterns(activity, longs);
-    let mut end = put_words(out, at, MEMBERS, Kind::UpTo(NONE as u64), members, write);
-    end = put_longs(out, end, ACTIVITIES, Kind::Bits, longs, write);
-    end = put_words(out, end, SWITCHES, Kind::UpTo(1), words, write);
-    put_longs(out, end, STEP, Kind::Bits, &pair, write)
+    let step = h.at.step;
+    let pair = [step.inc.to_bits(), step.decay.to_bits()];
+    widened(h.decision, words);
+    patterns(h.activity, longs);
+    sink.row(MEMBERS, Word::UpTo(NONE), &h.heap[..h.at.len as usize]);
+    sink.row(ACTIVITIES, Long::Bits, longs);
+    sink.row(SWITCHES, Word::UpTo(1), words);
+    sink.row(STEP, Long::Bits, &pair);
 }
 
-// The text of a session, from the buffer's front on. The scratch has room for the variables.
-fn put_session(
-    out: &mut [u8],
+// The text of a session. The scratch has room for the variables.
+fn put_session<S: Sink>(
+    sink: &mut S,
     n: u32,
-    lits: &[u32],
-    ends: &[u32],
-    levels: &[u32],
-    reasons: &[u32],
-    trail: &[u32],
-    activity: &[f64],
-    heap: &[u32],
-    decision: &[u8],
-    s: HeapState,
+    list: Clauses<'_>,
+    seen: HeapView<'_>,
     words: &mut [u32],
     longs: &mut [u64],
-    write: bool,
-) -> usize
-    requires fact { let text = session_text n lits.now ends.now levels.now reasons.now trail.now activity.now heap.now decision.now s in
-        Lines n lits.now ends.now levels.now reasons.now trail.now activity.now heap.now decision.now s × Room write 0 text out.old }
+)
+    requires lines { LinesSeen n list.lits.now list.ends.now seen }
+    requires room { S.room sink.old (text_seen n list.lits.now list.ends.now seen) }
     requires n_in_bounds { (n ≤ length words.old) × (n ≤ length longs.old) }
-    ensures { let text = session_text n lits.now ends.now levels.now reasons.now trail.now
-        activity.now heap.now decision.now s in
-        Puts write 0 text out.old out.new result }
+    ensures { S.puts sink.old (text_seen n list.entry.lits.now list.entry.ends.now seen.entry) sink.new }
 {
-    let t = s.trail;
-    let h = s.vsids;
-    let step = h.step;
-    let k = t.len as usize;
-    let m = h.len as usize;
-    let v = n as usize;
-    let end = put_front(
-        out,
-        n,
-        &VSIDS,
-        lits,
-        ends,
-        &trail[..k],
-        levels,
-        reasons,
-        t.curr_i,
-        &mut words[..k],
-        write,
-    );
+    let k = seen.trail.at.len as usize;
+    put_front(sink, n, &VSIDS, list, seen.trail, &mut words[..k]);
     put_heap(
-        out,
-        end,
-        &heap[..m],
-        activity,
-        decision,
-        step,
-        &mut words[..v],
-        &mut longs[..v],
-        write,
-    )
+        sink,
+        seen.vsids,
+        &mut words[..n as usize],
+        &mut longs[..n as usize],
+    );
 }
 
-// The same with a scratch for few variables.
-fn put_few(
-    out: &mut [u8],
-    n: u32,
-    lits: &[u32],
-    ends: &[u32],
-    levels: &[u32],
-    reasons: &[u32],
-    trail: &[u32],
-    activity: &[f64],
-    heap: &[u32],
-    decision: &[u8],
-    s: HeapState,
-    write: bool,
-) -> usize
-    requires fact { let text = session_text n lits.now ends.now levels.now reasons.now trail.now activity.now heap.now decision.now s in
-        Lines n lits.now ends.now levels.now reasons.now trail.now activity.now heap.now decision.now s × Room write 0 text out.old }
-    requires n_le_few { n ≤ few }
-    ensures { let text = session_text n lits.now ends.now levels.now reasons.now trail.now
-        activity.now heap.now decision.now s in
-        Puts write 0 text out.old out.new result }
+// The same with a scratch that has room for VARS variables.
+fn put_in<S: Sink, const VARS: usize>(sink: &mut S, n: u32, list: Clauses<'_>, seen: HeapView<'_>)
+    requires lines { LinesSeen n list.lits.now list.ends.now seen }
+    requires room { S.room sink.old (text_seen n list.lits.now list.ends.now seen) }
+    requires sizes { VARS ≤ max_vars + 16 }
+    requires vars { n ≤ VARS }
+    ensures { S.puts sink.old (text_seen n list.entry.lits.now list.entry.ends.now seen.entry) sink.new }
 {
-    let mut words = [0u32; FEW as usize];
-    let mut longs = [0u64; FEW as usize];
-    put_session(
-        out, n, lits, ends, levels, reasons, trail, activity, heap, decision, s, &mut words,
-        &mut longs, write,
-    )
+    let mut words = [0u32; VARS];
+    let mut longs = [0u64; VARS];
+    put_session(sink, n, list, seen, &mut words, &mut longs);
 }
 
 // The same with any number of variables.
-pub fn put_text(
-    out: &mut [u8],
-    n: u32,
-    lits: &[u32],
-    ends: &[u32],
-    levels: &[u32],
-    reasons: &[u32],
-    trail: &[u32],
-    activity: &[f64],
-    heap: &[u32],
-    decision: &[u8],
-    s: HeapState,
-    write: bool,
-) -> usize
-    requires { let text = session_text n lits.now ends.now levels.now reasons.now trail.now activity.now heap.now decision.now s in
-        Lines n lits.now ends.now levels.now reasons.now trail.now activity.now heap.now decision.now s × Room write 0 text out.old }
-    ensures { let text = session_text n lits.now ends.now levels.now reasons.now trail.now
-        activity.now heap.now decision.now s in
-        Puts write 0 text out.old out.new result }
+pub fn put_all<S: Sink>(sink: &mut S, n: u32, list: Clauses<'_>, seen: HeapView<'_>)
+    requires lines { LinesSeen n list.lits.now list.ends.now seen }
+    requires room { S.room sink.old (text_seen n list.lits.now list.ends.now seen) }
+    ensures { S.puts sink.old (text_seen n list.entry.lits.now list.entry.ends.now seen.entry) sink.new }
 {
-    if n <= FEW {
-        return put_few(
-            out, n, lits, ends, levels, reasons, trail, activity, heap, decision, s, write,
-        );
+    if n as usize <= FEW {
+        put_in::<S, FEW>(sink, n, list, seen);
+    } else {
+        put_in::<S, ALL>(sink, n, list, seen);
     }
-    let mut words = [0u32; ALL as usize];
-    let mut longs = [0u64; ALL as usize];
-    put_session(
-        out, n, lits, ends, levels, reasons, trail, activity, heap, decision, s, &mut words,
-        &mut longs, write,
-    )
 }
 
-// Whether the text has room in the buffer: its bytes are counted only where a longer text would not have.
-pub fn text_fits(
-    out: &mut [u8],
-    n: u32,
-    lits: &[u32],
-    ends: &[u32],
-    levels: &[u32],
-    reasons: &[u32],
-    trail: &[u32],
-    activity: &[f64],
-    heap: &[u32],
-    decision: &[u8],
-    s: HeapState,
-) -> bool
-    requires { Lines n lits.now ends.now levels.now reasons.now trail.now activity.now heap.now decision.now s }
-    ensures { let text = session_text n lits.now ends.now levels.now reasons.now trail.now
-        activity.now heap.now decision.now s in
-        (result ≡ leb (length text) (length out.old)) × (out.new ≡ out.old) }
+// Writes the text from the buffer's front on, and gives its length.
+pub fn put_text(out: &mut [u8], n: u32, list: Clauses<'_>, seen: HeapView<'_>) -> usize
+    requires lines { LinesSeen n list.lits.now list.ends.now seen }
+    requires room { length (text_seen n list.lits.now list.ends.now seen) ≤ length out.old }
+    ensures { Wrote 0 (text_seen n list.entry.lits.now list.entry.ends.now seen.entry) out.old out.new result }
 {
-    if out.len() >= longest(n, ends.len(), lits.len()) {
+    let mut buffer = Buffer { out, at: 0 };
+    put_all(&mut buffer, n, list, seen);
+    buffer.at
+}
+
+// Whether the text has so much room: its bytes are counted only where a longer text would not have.
+pub fn text_fits(room: usize, n: u32, list: Clauses<'_>, seen: HeapView<'_>) -> bool
+    requires { LinesSeen n list.lits.now list.ends.now seen }
+    ensures { result ≡ leb (length (text_seen n list.entry.lits.now list.entry.ends.now seen.entry)) room }
+{
+    if room >= longest(n, list.ends.len(), list.lits.len()) {
         return true;
     }
-    let end = put_text(
-        out, n, lits, ends, levels, reasons, trail, activity, heap, decision, s, false,
-    );
-    end <= out.len()
+    let mut count = Count { bytes: 0 };
+    put_all(&mut count, n, list, seen);
+    count.bytes <= room
 }

@@ -1,17 +1,14 @@
--- The answer of each outcome of a decay and of bumping a reason in heap mode: the tests that led there decide the call's definition.
+-- The answer of each outcome of bumping a reason in heap mode: the tests that led there decide the call's definition.
 use Prim.Native.Nat.{ℕ, ◌<◌}
 use mathlib.Core.Path.{◌≡◌, refl}
-use mathlib.Core.Bool.{true, false}
 use mathlib.Core.List.{List}
 use borrow.Author.Tests.{lt-ltb, eq-eqb, ne_eqb}
 use lib.ListN.{get_or}
 use Rattle.lit.specs.Numbers.{NONE}
-use Rattle.lit.specs.Numbers as number
-use Rattle.activity.specs.Step.{large_step}
 use Rattle.formula.specs.Clauses.{clause}
-use Rattle.vsids.specs.Vsids.{Vsids, decay_var_inc, bump_reason_literals}
+use Rattle.vsids.specs.Vsids.{Vsids, bump_reason_literals}
 use Rattle.choosers.specs.Heap.{heap_ops}
-use Rattle.book.specs.Calls.{Call, decay, bump_reason}
+use Rattle.book.specs.Calls.{Call, bump_reason}
 use Rattle.book.specs.Session.{Session, need, tuned, call}
 use Rattle.session.specs.Entry.{Answered}
 use Rattle.session.proofs.Outcomes.{finished, rechosen}
@@ -20,14 +17,6 @@ module _ (n m : ℕ) (lits ends : List ℕ) (s : Session n m (heap_ops n lits en
   -- status k, reply r and the session u are what the call c gives
   abbrev Gives : Call → ℕ → ℕ → Session n m (heap_ops n lits ends) → Type 0
   Gives c k r u = Answered (call n m (heap_ops n lits ends) s c) s k r u
-
-  pub step_large : large_step s.chooser.step ≡ true → Gives decay number.large_step NONE s
-  unfolding call tuned
-  step_large e = rw e (record { status = refl; reply = refl; session = refl })
-
-  pub decayed : large_step s.chooser.step ≡ false → (h : Vsids) → h ≡ decay_var_inc s.chooser → Gives decay 0 NONE (record { trail = s.trail; chooser = h })
-  unfolding call tuned
-  decayed e h q = rw e (rechosen q)
 
   module _ (v : ℕ) (b : v < n) (r : ℕ) (at : get_or s.trail.reasons v 0 ≡ r) where
     pub without_reason : r ≡ NONE → Gives (bump_reason v) 0 NONE s

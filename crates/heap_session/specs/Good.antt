@@ -1,11 +1,10 @@
 -- When a session in heap mode is good, and what each call needs of it.
-use Rattle.std.specs.Prelude.{ℕ, ◌≤◌, ◌≡◌, List, Float, length}
+use Rattle.std.specs.Prelude.{ℕ, ◌≤◌, ◌≡◌, List, length}
 use Rattle.lit.specs.Numbers.{max_vars}
 use Rattle.formula.specs.Good.{GoodClauses}
 use Rattle.trail.specs.Trail.{Trail}
 use Rattle.trail.specs.Good.{GoodTrail}
-use Rattle.vsids.specs.declared.VsidsState.{VsidsState}
-use Rattle.vsids.specs.Vsids.{Vsids, vsids_of}
+use Rattle.vsids.specs.Vsids.{Vsids}
 use Rattle.vsids.specs.Good.{GoodHeap}
 
 -- the facts that document 01 states of the clauses, the trail and the heap, over n variables and m clauses
@@ -21,8 +20,8 @@ abbrev pub ForValues : ℕ → Vsids → Type 0
 ForValues n h = (values : List ℕ) × GoodHeap n values h
 
 -- and for some switches
-abbrev pub ForSwitches : ℕ → List Float → List ℕ → List ℕ → VsidsState → Type 0
-ForSwitches n activity heap indices s = (decision : List ℕ) × ForValues n (vsids_of activity heap indices decision s)
+abbrev pub ForSwitches : ℕ → Vsids → Type 0
+ForSwitches n h = (decision : List ℕ) × ForValues n (record { activity = h.activity; heap = h.heap; indices = h.indices; decision = decision; len = h.len; step = h.step })
 
 -- what going back needs, and a decide: a good trail and a good heap
 pub record Steady (n : ℕ) (t : Trail) (h : Vsids) : Type 0 where

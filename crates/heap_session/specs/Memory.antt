@@ -21,9 +21,9 @@ session_of n m lits ends values levels reasons trail opened activity heap indice
 abbrev pub answer : ℕ → ℕ → HeapState → HeapAnswer
 answer k r s = record { status = k; reply = r; state = s }
 
--- the answer a and the session u are what the call c gives for the session s
-abbrev pub Answers : (n m : ℕ) (lits ends : List ℕ) → Call → Session n m (heap_ops n lits ends) → HeapAnswer → Session n m (heap_ops n lits ends) → Type 0
-Answers n m lits ends c s a u = Answered (call n m (heap_ops n lits ends) s c) s a.status a.reply u
+-- status k, reply r and the session u are what the call c gives for the session s
+abbrev pub Answers : (n m : ℕ) (lits ends : List ℕ) → Call → Session n m (heap_ops n lits ends) → ℕ → ℕ → Session n m (heap_ops n lits ends) → Type 0
+Answers n m lits ends c s k r u = Answered (call n m (heap_ops n lits ends) s c) s k r u
 
 -- 'Undone variables are offered to `insert`, last first': these variables, in this order
 unfoldable pub insert_all : List ℕ → Vsids → Vsids

@@ -1,121 +1,106 @@
 // A session in heap mode: the trail and the heap of VSIDS over lent slices, and the eleven calls on it.
 ghost use Rattle.std.specs.Prelude.{◌≡◌, length};
-ghost use Rattle.trail.specs.Memory.{trail_of, Lengths};
-ghost use Rattle.vsids.specs.Vsids.{vsids_of};
+ghost use Rattle.lit.specs.Refusals.{status_of};
+ghost use Rattle.trail.specs.Memory.{trail_in, view_in, Sized};
+ghost use Rattle.trail.specs.Memory as trail;
+ghost use Rattle.vsids.specs.Memory.{vsids_in};
+ghost use Rattle.vsids.specs.Memory as vsids;
+ghost use Rattle.vsids.specs.View.{vsids_seen};
 ghost use Rattle.vsids.specs.Check.{SameLengths};
 ghost use Rattle.session.specs.Calls.{call_of};
-ghost use Rattle.heap_session.specs.Memory.{session_of, answer, Answers};
+ghost use Rattle.session.specs.Entry.{reply_of};
+ghost use Rattle.heap_session.specs.Memory.{Answers};
+ghost use Rattle.heap_session.specs.Held.{both, trail_held, vsids_held, session_in, SameSlices};
 ghost use Rattle.heap_session.specs.Good.{GoodSession};
 ghost use Rattle.heap_session.specs.Check.{state_ok};
 
-use crate::{HeapAnswer, HeapState, order};
-use session::on_trail::TrailAnswer;
-use session::{Call, on_trail};
-use vsids::VsidsState;
+use crate::{HeapSession, HeapState, HeapView, on_trail, order};
+use formula::Clauses;
+use lit::Refusal;
+use session::Call;
+use trail::Trail;
+use vsids::Vsids;
 
-// What a call on the trail alone answers; the heap stays.
-fn with_heap(a: TrailAnswer, h: VsidsState) -> HeapAnswer
-    ensures { result ≡ answer a.status a.reply (record { trail = a.state; vsids = h }) }
-{
-    let t = a.state;
-    HeapAnswer {
-        status: a.status,
-        reply: a.reply,
-        state: HeapState { trail: t, vsids: h },
-    }
-}
-
-// A call on a good session.
-pub fn step(
+// A call on a good trail and a good heap.
+fn step_on(
     n: u32,
     m: u32,
-    lits: &[u32],
-    ends: &[u32],
-    values: &mut [u8],
-    levels: &mut [u32],
-    reasons: &mut [u32],
-    trail: &mut [u32],
-    opened: &mut [u32],
-    activity: &mut [f64],
-    heap: &mut [u32],
-    indices: &mut [u32],
-    decision: &mut [u8],
-    s: HeapState,
+    list: Clauses<'_>,
+    t: &mut Trail<'_>,
+    h: &mut Vsids<'_>,
     call: Call,
     vars: &[u32],
-) -> HeapAnswer
-    requires { let t = trail_of values.old levels.old reasons.old trail.old opened.old s.trail in
-        let h = vsids_of activity.old heap.old indices.old decision.old s.vsids in
-        GoodSession n m lits.now ends.now t h }
-    ensures { let before = session_of n m lits.now ends.now
-        values.old levels.old reasons.old trail.old opened.old
-        activity.old heap.old indices.old decision.old s in
-        let after = session_of n m lits.now ends.now
-        values.new levels.new reasons.new trail.new opened.new
-        activity.new heap.new indices.new decision.new result.state in
-        Answers n m lits.now ends.now (call_of call vars.now) before result after }
+) -> Result<Option<u32>, Refusal>
+    requires { GoodSession n m list.lits.now list.ends.now (trail_in t.old) (vsids_in h.old) }
+    ensures answered { let lits = list.entry.lits.now in let ends = list.entry.ends.now in
+        let with = both n m lits ends in
+        Answers n m lits ends (call_of call vars.now) (with (trail_in t.old) (vsids_in h.old)) (status_of result) (reply_of result) (with (trail_in t.new) (vsids_in h.new)) }
+    ensures same_trail { trail.SameSlices t.old t.new }
+    ensures same_heap { vsids.SameSlices h.old h.new }
 {
-    let t = s.trail;
-    let h = s.vsids;
     match call {
-        Call::Bump(v) => order::bump(n, activity, heap, indices, s, v),
-        Call::Decay => order::decay(s),
-        Call::SetDecay(d) => order::set_decay(s, d),
-        Call::Insert(v) => order::insert(n, activity, heap, indices, decision, s, v),
-        Call::SwitchOff(v) => order::switch_off(n, decision, s, v),
-        Call::Decide(p) => {
-            crate::on_trail::decide(
-                values, levels, reasons, trail, opened, activity, heap, indices, decision, s, p,
-            )
-        }
-        Call::Enqueue(code, reason) => {
-            let a = on_trail::enqueue(
-                n, m, values, levels, reasons, trail, opened, t, code, reason,
-            );
-            with_heap(a, h)
-        }
-        Call::LearnUnit(code) => {
-            crate::on_trail::learn_unit(
-                n, values, levels, reasons, trail, opened, activity, heap, indices, decision, s,
-                code,
-            )
-        }
-        Call::GoBack(level) => {
-            crate::on_trail::go_back(
-                values, levels, reasons, trail, opened, activity, heap, indices, decision, s, level,
-            )
-        }
-        Call::BumpReason(v) => {
-            order::bump_reason(n, lits, ends, reasons, activity, heap, indices, s, v)
-        }
-        Call::Group => order::group(n, s, vars),
+        Call::Bump(v) => order::bump(n, h, v),
+        Call::Decay => order::decay(h),
+        Call::SetDecay(d) => order::set_decay(h, d),
+        Call::Insert(v) => order::insert(n, h, v),
+        Call::SwitchOff(v) => order::switch_off(n, h, v),
+        Call::Decide(p) => on_trail::decide(t, h, p),
+        Call::Enqueue(code, reason) => session::on_trail::enqueue(n, m, t, code, reason),
+        Call::LearnUnit(code) => on_trail::learn_unit(n, t, h, code),
+        Call::GoBack(level) => Ok(Some(on_trail::go_back(t, h, level))),
+        Call::BumpReason(v) => order::bump_reason(n, list, t, h, v),
+        Call::Group => order::group(n, vars),
     }
 }
 
-// Whether the trail and the heap are good.
-pub fn check_state(
-    m: u32,
-    values: &[u8],
-    levels: &[u32],
-    reasons: &[u32],
-    trail: &[u32],
-    opened: &[u32],
-    activity: &[f64],
-    heap: &[u32],
-    indices: &[u32],
-    decision: &[u8],
-    s: HeapState,
-) -> bool
-    requires lengths { Lengths (length values.now) values.now levels.now reasons.now trail.now opened.now }
-    requires same_lengths { SameLengths (length activity.now) values.now heap.now indices.now decision.now }
-    ensures { let t = trail_of values.now levels.now reasons.now trail.now opened.now s.trail in
-        let h = vsids_of activity.now heap.now indices.now decision.now s.vsids in
-        result ≡ state_ok m t h }
-{
-    let t = s.trail;
-    let h = s.vsids;
-    if !trail_check::check_trail(m, values, levels, reasons, trail, opened, t) {
-        return false;
+impl HeapSession<'_> {
+    // A call on a good session.
+    pub fn step(
+        &mut self,
+        n: u32,
+        m: u32,
+        list: Clauses<'_>,
+        call: Call,
+        vars: &[u32],
+    ) -> Result<Option<u32>, Refusal>
+        requires { GoodSession n m list.lits.now list.ends.now (trail_held self.old) (vsids_held self.old) }
+        ensures answered { let lits = list.entry.lits.now in let ends = list.entry.ends.now in
+            let held = session_in n m lits ends in
+            Answers n m lits ends (call_of call vars.now) (held self.old) (status_of result) (reply_of result) (held self.new) }
+        ensures same_slices { SameSlices self.old self.new }
+    {
+        let mut trail = Trail {
+            values: self.values,
+            levels: self.levels,
+            reasons: self.reasons,
+            codes: self.trail,
+            opened: self.opened,
+            at: self.at.trail,
+        };
+        let mut vsids = Vsids {
+            activity: self.activity,
+            heap: self.heap,
+            indices: self.indices,
+            decision: self.decision,
+            at: self.at.vsids,
+        };
+        let given = step_on(n, m, list, &mut trail, &mut vsids, call, vars);
+        self.at = HeapState {
+            trail: trail.at,
+            vsids: vsids.at,
+        };
+        given
     }
-    vsids::heap_check::check_heap(values, activity, heap, indices, decision, h)
+}
+
+impl HeapView<'_> {
+    // Whether the trail and the heap are good.
+    #[tactic(auto, unfolding(crate::specs::Check::state_ok))]
+    pub fn check(self, m: u32) -> bool
+        requires lengths { Sized (length self.trail.values.now) (view_in self.trail) }
+        requires same_lengths { SameLengths (length self.vsids.activity.now) self.trail.values.now self.vsids.heap.now self.vsids.indices.now self.vsids.decision.now }
+        ensures { result ≡ state_ok m (view_in self.entry.trail) (vsids_seen self.entry.vsids) }
+    {
+        trail_check::check_trail(m, self.trail) && self.vsids.check(self.trail.values)
+    }
 }

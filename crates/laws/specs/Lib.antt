@@ -12,3 +12,4 @@ pub mod InPlace
 pub mod Parts
 pub mod Counts
 pub mod Stores
+pub mod Options

@@ -1,18 +1,20 @@
 // A new session in list mode on a sheet, once the clause lines are read: it is made fresh and checked once, its lines are done, and it is saved.
-ghost use Rattle.std.specs.Prelude.{◌≡◌, ◌≤◌, length};
+ghost use Rattle.std.specs.Prelude.{◌≡◌, ◌+◌, ◌≤◌, length};
 ghost use Rattle.lit.specs.Numbers as number;
 ghost use Rattle.formula.specs.Good.{GoodClauses};
-ghost use Rattle.trail.specs.Memory.{Lengths};
+ghost use Rattle.trail.specs.Trail.{fresh_trail};
+ghost use Rattle.vmtf.specs.Vmtf.{new};
+ghost use Rattle.list_session.specs.Memory.{trail_held, vmtf_held};
 ghost use Rattle.forms.specs.Forms.{vmtf};
 ghost use Rattle.sheet.specs.Stages as spec;
 ghost use Rattle.sheet.specs.Running.{Room};
-ghost use Rattle.list_sheet.specs.Start.{RoomIn};
 ghost use Rattle.saved_sheet.specs.Sheets.{text_room};
-ghost use Rattle.saved_run.specs.Sizes as size;
 ghost use Rattle.saved_run.specs.Ends.{Saves};
 
 use crate::run::list_done;
-use list_sheet::line::ListPlace;
+use formula::Clauses;
+use list_session::ListSession;
+use list_sheet::start;
 use lit::{NONE, UNASSIGNED};
 use saved_run::{ALL, Both, FEW};
 use sheet::Place;
@@ -23,182 +25,75 @@ fn list_fresh(
     out: &mut [u8],
     text: &mut [u8],
     n: u32,
-    lits: &[u32],
-    ends: &[u32],
-    values: &mut [u8],
-    levels: &mut [u32],
-    reasons: &mut [u32],
-    trail: &mut [u32],
-    opened: &mut [u32],
-    next: &mut [u32],
-    prev: &mut [u32],
-    ts: &mut [u64],
+    list: Clauses<'_>,
+    session: &mut ListSession<'_>,
     p: Place,
 ) -> Both
-    requires room { Room sheet.now p out.old × (n ≤ number.max_vars) × GoodClauses n lits.now ends.now × (text_room n (length ends.now) (length lits.now) ≤ length text.old) }
-    requires lengths { Lengths n values.old levels.old reasons.old trail.old opened.old × (length next.old ≡ n) × (length prev.old ≡ n) × (length ts.old ≡ n) }
-    ensures { Saves sheet.now p (spec.opened vmtf n lits.now ends.now) out.old text.old result out.new text.new }
+    requires room { Room sheet.now p out.old × (n ≤ number.max_vars) × GoodClauses n list.lits.now list.ends.now × (text_room n (length list.ends.now) (length list.lits.now) ≤ length text.old) }
+    requires fresh { (trail_held session.old ≡ fresh_trail n) × (vmtf_held session.old ≡ new n list.lits.now) }
+    ensures { Saves sheet.now p (spec.opened vmtf n list.entry.lits.now list.entry.ends.now) out.old text.old result out.new text.new }
 {
-    let a = list_sheet::start(
-        n,
-        ends.len() as u32,
-        lits,
-        values,
-        levels,
-        reasons,
-        trail,
-        opened,
-        next,
-        prev,
-        ts,
-    );
-    if !a.good {
+    if !session.view().check(list.ends.len() as u32) {
         return Both {
             answers: p.at,
             text: 0,
         };
     }
-    let s = a.state;
-    list_done(
-        sheet,
-        out,
-        text,
-        n,
-        lits,
-        ends,
-        values,
-        levels,
-        reasons,
-        trail,
-        opened,
-        next,
-        prev,
-        ts,
-        ListPlace { place: p, state: s },
-    )
+    list_done(sheet, out, text, n, list, session, p)
 }
 
-// The same in arrays that have room for n variables.
-fn list_arrays(
+// The same in arrays of its own, which have room for VARS variables.
+fn in_own_arrays<const VARS: usize>(
     sheet: &[u8],
     out: &mut [u8],
     text: &mut [u8],
     n: u32,
-    lits: &[u32],
-    ends: &[u32],
-    values: &mut [u8],
-    levels: &mut [u32],
-    reasons: &mut [u32],
-    trail: &mut [u32],
-    opened: &mut [u32],
-    next: &mut [u32],
-    prev: &mut [u32],
-    ts: &mut [u64],
+    list: Clauses<'_>,
     p: Place,
 ) -> Both
-    requires room { Room sheet.now p out.old × (n ≤ number.max_vars) × GoodClauses n lits.now ends.now × (text_room n (length ends.now) (length lits.now) ≤ length text.old) }
-    requires room_in { RoomIn n values.old levels.old reasons.old trail.old opened.old next.old prev.old ts.old }
-    ensures { Saves sheet.now p (spec.opened vmtf n lits.now ends.now) out.old text.old result out.new text.new }
+    requires sizes { VARS ≤ number.max_vars + 16 }
+    requires vars { (n ≤ number.max_vars) × (n ≤ VARS) }
+    requires room { Room sheet.now p out.old × GoodClauses n list.lits.now list.ends.now × (text_room n (length list.ends.now) (length list.lits.now) ≤ length text.old) }
+    ensures { Saves sheet.now p (spec.opened vmtf n list.entry.lits.now list.entry.ends.now) out.old text.old result out.new text.new }
 {
+    let mut values = [UNASSIGNED; VARS];
+    let mut levels = [NONE; VARS];
+    let mut reasons = [NONE; VARS];
+    let mut codes = [NONE; VARS];
+    let mut opened = [NONE; VARS];
+    let mut next = [NONE; VARS];
+    let mut prev = [NONE; VARS];
+    let mut ts = [0u64; VARS];
     let k = n as usize;
-    list_fresh(
-        sheet,
-        out,
-        text,
+    let mut session = start(
         n,
-        lits,
-        ends,
+        list.lits,
         &mut values[..k],
         &mut levels[..k],
         &mut reasons[..k],
-        &mut trail[..k],
+        &mut codes[..k],
         &mut opened[..k],
         &mut next[..k],
         &mut prev[..k],
         &mut ts[..k],
-        p,
-    )
+    );
+    list_fresh(sheet, out, text, n, list, &mut session, p)
 }
 
-// Does the lines of a new session of few variables, and saves it.
-fn list_few(
-    sheet: &[u8],
-    out: &mut [u8],
-    text: &mut [u8],
-    n: u32,
-    lits: &[u32],
-    ends: &[u32],
-    p: Place,
-) -> Both
-    requires { Room sheet.now p out.old × (n ≤ size.few) × GoodClauses n lits.now ends.now × (text_room n (length ends.now) (length lits.now) ≤ length text.old) }
-    ensures { Saves sheet.now p (spec.opened vmtf n lits.now ends.now) out.old text.old result out.new text.new }
-{
-    let mut values = [UNASSIGNED; FEW as usize];
-    let mut levels = [NONE; FEW as usize];
-    let mut reasons = [NONE; FEW as usize];
-    let mut trail = [NONE; FEW as usize];
-    let mut opened = [NONE; FEW as usize];
-    let mut next = [NONE; FEW as usize];
-    let mut prev = [NONE; FEW as usize];
-    let mut ts = [0u64; FEW as usize];
-    list_arrays(
-        sheet,
-        out,
-        text,
-        n,
-        lits,
-        ends,
-        &mut values,
-        &mut levels,
-        &mut reasons,
-        &mut trail,
-        &mut opened,
-        &mut next,
-        &mut prev,
-        &mut ts,
-        p,
-    )
-}
-
-// The same with any number of variables.
+// Does the lines of a new session from a place on, and saves it.
 pub fn list_new(
     sheet: &[u8],
     out: &mut [u8],
     text: &mut [u8],
     n: u32,
-    lits: &[u32],
-    ends: &[u32],
+    list: Clauses<'_>,
     p: Place,
 ) -> Both
-    requires { Room sheet.now p out.old × (n ≤ number.max_vars) × GoodClauses n lits.now ends.now × (text_room n (length ends.now) (length lits.now) ≤ length text.old) }
-    ensures { Saves sheet.now p (spec.opened vmtf n lits.now ends.now) out.old text.old result out.new text.new }
+    requires { Room sheet.now p out.old × (n ≤ number.max_vars) × GoodClauses n list.lits.now list.ends.now × (text_room n (length list.ends.now) (length list.lits.now) ≤ length text.old) }
+    ensures { Saves sheet.now p (spec.opened vmtf n list.entry.lits.now list.entry.ends.now) out.old text.old result out.new text.new }
 {
-    if n <= FEW {
-        return list_few(sheet, out, text, n, lits, ends, p);
+    if n as usize <= FEW {
+        return in_own_arrays::<FEW>(sheet, out, text, n, list, p);
     }
-    let mut values = [UNASSIGNED; ALL as usize];
-    let mut levels = [NONE; ALL as usize];
-    let mut reasons = [NONE; ALL as usize];
-    let mut trail = [NONE; ALL as usize];
-    let mut opened = [NONE; ALL as usize];
-    let mut next = [NONE; ALL as usize];
-    let mut prev = [NONE; ALL as usize];
-    let mut ts = [0u64; ALL as usize];
-    list_arrays(
-        sheet,
-        out,
-        text,
-        n,
-        lits,
-        ends,
-        &mut values,
-        &mut levels,
-        &mut reasons,
-        &mut trail,
-        &mut opened,
-        &mut next,
-        &mut prev,
-        &mut ts,
-        p,
-    )
+    in_own_arrays::<ALL>(sheet, out, text, n, list, p)
 }

@@ -1,12 +1,14 @@
 // The entry point that makes a session in list mode. It checks the memory that was lent, and asks nothing of its callers.
 ghost use Rattle.std.specs.Prelude.{◌≡◌, eqb};
-ghost use Rattle.session.specs.Entry.{Answered};
-ghost use Rattle.list_session.specs.Memory.{session_of, cleared};
+ghost use Rattle.lit.specs.Refusals.{status_of};
+ghost use Rattle.session.specs.Entry.{Answered, reply_of};
+ghost use Rattle.list_session.specs.Memory.{session_of, session_in, SameSlices, cleared};
 ghost use Rattle.list_entry.specs.Entry.{made, made_unaided, blank};
 
 use crate::lengths_ok;
-use list_session::{ListAnswer, ListState, accept, refuse};
-use lit::NONE;
+use formula::Clauses;
+use list_session::{ListAnswer, ListSession, ListState};
+use lit::{NONE, Refusal};
 use trail::TrailState;
 use vmtf::VmtfState;
 
@@ -15,11 +17,7 @@ pub fn blank_state() -> ListState
     ensures { result ≡ blank }
 {
     ListState {
-        trail: TrailState {
-            len: 0,
-            level: 0,
-            curr_i: 0,
-        },
+        trail: TrailState::default(),
         vmtf: VmtfState {
             start: NONE,
             search: NONE,
@@ -28,22 +26,48 @@ pub fn blank_state() -> ListState
     }
 }
 
-// A fresh session in slices that were lent: nothing is assigned, and the list has the variables of the most literals first. The counts
-// and the indexes are scratch.
-pub fn fresh(
+// A fresh session in what was lent: nothing is assigned, and the list has the variables of the most literals first. Or the first refusal that
+// fits. The counts and the indexes are scratch.
+pub fn fresh_session(
+    n: u32,
+    literals: u32,
+    clauses: u32,
+    list: Clauses<'_>,
+    session: &mut ListSession<'_>,
+    counts: &mut [u32],
+    indexes: &mut [u32],
+) -> Result<Option<u32>, Refusal>
+    ensures answered { let lits = list.entry.lits.now in let ends = list.entry.ends.now in
+        let held = session_in n clauses lits in
+        let before = held session.old in
+        let wanted = made n clauses lits literals ends counts.old indexes.old before in
+        Answered wanted before (status_of result) (reply_of result) (held session.new) }
+    ensures scratch { let used = eqb (status_of result) 0 in
+        (counts.new ≡ cleared used counts.old) × (indexes.new ≡ cleared used indexes.old) }
+    ensures same_slices { SameSlices session.old session.new }
+{
+    let scratch = session::entry::scratch_lengths(n as usize, counts.len(), indexes.len());
+    let lengths = lengths_ok(n, literals, clauses, list, session.view(), scratch);
+    session::entry::size_refusal(n, lengths, list)?;
+    session.make_fresh(list.lits, counts, indexes);
+    Ok(None)
+}
+
+// The same in flat slices.
+pub fn fresh<'a>(
     n: u32,
     literals: u32,
     clauses: u32,
     lits: &[u32],
     ends: &[u32],
-    values: &mut [u8],
-    levels: &mut [u32],
-    reasons: &mut [u32],
-    trail: &mut [u32],
-    opened: &mut [u32],
-    next: &mut [u32],
-    prev: &mut [u32],
-    ts: &mut [u64],
+    values: &'a mut [u8],
+    levels: &'a mut [u32],
+    reasons: &'a mut [u32],
+    trail: &'a mut [u32],
+    opened: &'a mut [u32],
+    next: &'a mut [u32],
+    prev: &'a mut [u32],
+    ts: &'a mut [u64],
     counts: &mut [u32],
     indexes: &mut [u32],
 ) -> ListAnswer
@@ -58,35 +82,57 @@ pub fn fresh(
     ensures fact_2 { let used = eqb result.status 0 in
         (counts.new ≡ cleared used counts.old) × (indexes.new ≡ cleared used indexes.old) }
 {
-    let scratch = session::entry::scratch_lengths(n as usize, counts.len(), indexes.len());
-    let lengths = lengths_ok(
-        n, literals, clauses, lits, ends, values, levels, reasons, trail, opened, next, prev, ts,
-        scratch,
-    );
-    let k = session::entry::size_refusal(n, lengths, lits, ends);
-    if k != 0 {
-        return refuse(k, blank_state());
-    }
-    let t = trail::new_trail(values, levels, reasons, trail, opened);
-    let l = move_to_front::creation::new(lits, next, prev, ts, counts, indexes);
-    accept(NONE, ListState { trail: t, vmtf: l })
+    let mut session = ListSession {
+        values,
+        levels,
+        reasons,
+        trail,
+        opened,
+        next,
+        prev,
+        ts,
+        at: blank_state(),
+    };
+    let list = Clauses { lits, ends };
+    let given = fresh_session(n, literals, clauses, list, &mut session, counts, indexes);
+    ListAnswer::of(given, session.at)
 }
 
-// The same with the levels and the reasons as scratch, before they are made fresh.
-pub fn fresh_unaided(
+// A fresh session without scratch beside it.
+pub fn fresh_session_unaided(
+    n: u32,
+    literals: u32,
+    clauses: u32,
+    list: Clauses<'_>,
+    session: &mut ListSession<'_>,
+) -> Result<Option<u32>, Refusal>
+    ensures answered { let lits = list.entry.lits.now in let ends = list.entry.ends.now in
+        let held = session_in n clauses lits in
+        let before = held session.old in
+        Answered (made_unaided n clauses lits literals ends before) before (status_of result) (reply_of result) (held session.new) }
+    ensures same_slices { SameSlices session.old session.new }
+{
+    let lengths = lengths_ok(n, literals, clauses, list, session.view(), true);
+    session::entry::size_refusal(n, lengths, list)?;
+    session.make_fresh_unaided(list.lits);
+    Ok(None)
+}
+
+// The same in flat slices.
+pub fn fresh_unaided<'a>(
     n: u32,
     literals: u32,
     clauses: u32,
     lits: &[u32],
     ends: &[u32],
-    values: &mut [u8],
-    levels: &mut [u32],
-    reasons: &mut [u32],
-    trail: &mut [u32],
-    opened: &mut [u32],
-    next: &mut [u32],
-    prev: &mut [u32],
-    ts: &mut [u64],
+    values: &'a mut [u8],
+    levels: &'a mut [u32],
+    reasons: &'a mut [u32],
+    trail: &'a mut [u32],
+    opened: &'a mut [u32],
+    next: &'a mut [u32],
+    prev: &'a mut [u32],
+    ts: &'a mut [u64],
 ) -> ListAnswer
     ensures { let before = session_of n clauses lits.now
         values.old levels.old reasons.old trail.old opened.old
@@ -96,15 +142,18 @@ pub fn fresh_unaided(
         next.new prev.new ts.new result.state in
         Answered (made_unaided n clauses lits.now literals ends.now before) before result.status result.reply after }
 {
-    let lengths = lengths_ok(
-        n, literals, clauses, lits, ends, values, levels, reasons, trail, opened, next, prev, ts,
-        true,
-    );
-    let k = session::entry::size_refusal(n, lengths, lits, ends);
-    if k != 0 {
-        return refuse(k, blank_state());
-    }
-    let l = move_to_front::creation::new(lits, next, prev, ts, levels, reasons);
-    let t = trail::new_trail(values, levels, reasons, trail, opened);
-    accept(NONE, ListState { trail: t, vmtf: l })
+    let mut session = ListSession {
+        values,
+        levels,
+        reasons,
+        trail,
+        opened,
+        next,
+        prev,
+        ts,
+        at: blank_state(),
+    };
+    let list = Clauses { lits, ends };
+    let given = fresh_session_unaided(n, literals, clauses, list, &mut session);
+    ListAnswer::of(given, session.at)
 }

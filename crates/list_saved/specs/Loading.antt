@@ -1,5 +1,6 @@
 -- Reading a saved session in list mode: the rows from which trail and list are restored, and what was read where they have no room. Assumes nothing.
-use Rattle.std.specs.Prelude.{ℕ, ◌*◌, ◌<◌, ◌≤◌, ◌≡◌, refl, Bool, true, false, List, [], ◌∷◌, ◌++◌, length, get_or, take}
+use Rattle.std.specs.Prelude.{ℕ, ◌*◌, ◌<◌, ◌≤◌, ◌≡◌, refl, Bool, true, false, List, [], ◌∷◌, ◌++◌, length, get_or, take, Some, None, Result, Ok, Err, is_ok}
+use Rattle.std.specs.Prelude as code
 use Rattle.std.proofs.Common.{sym, ap, subst, ◌∙◌, arith, le-leb, take_at}
 use Rattle.std.proofs.lemmas.Bool.{false≢true}
 use Rattle.std.proofs.Math.Option.{Option, none, some}
@@ -14,13 +15,14 @@ use Rattle.vmtf.specs.Vmtf.{Vmtf, vmtf_of, Vars}
 use Rattle.vmtf.specs.Good.{order_is}
 use Rattle.list_session.specs.declared.ListState.{ListState}
 use Rattle.list_session.specs.Check.{state_ok}
+use Rattle.list_entry.specs.Entry.{blank}
 use Rattle.forms.specs.Forms.{vmtf, Opening}
 use Rattle.saved_text.specs.declared.form.Clauses.{Clauses}
 use Rattle.saved_text.specs.declared.form.TrailRows.{TrailRows}
+use Rattle.saved_text.specs.declared.form.ListText.{ListText}
 use Rattle.saved_text.specs.declared.form.ListRows.{ListRows}
 use Rattle.saved_text.specs.Saved.{Saved, WellFormed}
 use Rattle.saved_text.specs.Greatest.{greatest}
-use Rattle.saved_text.specs.declared.form.ListText.TheVariants as a-list-text
 use Rattle.saved_text.specs.Reading.{read_text}
 use Rattle.saved_text.specs.Form.{Told, ListTold, OpensWith, opened}
 use Rattle.saved_text.specs.FormLaws.{opens_said}
@@ -31,10 +33,11 @@ use Rattle.saved_state.specs.Loops.{Codes}
 use Rattle.saved_state.specs.OfTrail.{each_code, codes_back}
 use Rattle.saved_state.specs.OfList.{each_var, list_back}
 use Rattle.saved_state.specs.Sound.{state_test}
-use Rattle.saved_state.specs.Judging.{clauses_good, fitting, LoadedIs, ends_length, clauses_judged, fronts_apart, front_all, front_part, front_one, codes_below, below_codes, fitting_says}
-use Rattle.list_saved.specs.declared.loading.Loaded.{Loaded}
-use Rattle.list_saved.specs.declared.loading.Loading as loading
-use Rattle.list_saved.specs.declared.loading.Loading.TheVariants as a-session
+use Rattle.saved_state.specs.Entry.{Reader}
+use Rattle.saved_state.specs.Judging.{clauses_fit, clauses_good, fitting, LoadedIs, ends_length, clauses_judged, fronts_apart, front_all, front_part, front_one, codes_below, below_codes, fitting_says}
+use Rattle.saved_state.specs.declared.judging.Loaded.{Loaded}
+use Rattle.saved_state.specs.declared.judging.Unfit.{Unfit}
+use Rattle.saved_state.specs.declared.judging.Unfit.TheVariants as a-reason
 use Rattle.list_saved.specs.Reader.{list_reader}
 use Rattle.list_saved.specs.Sound.{tests_right}
 
@@ -143,20 +146,21 @@ module _ {s : Saved} {n : ℕ} {c : Clauses} {t : TrailRows} (h : ListRows) {lit
 
 -- what the reader of a text says of its bytes
 pub told_of : {text : List ℕ} {at n : ℕ} → OpensWith text at (opened n true) → (c : Clauses) (t : TrailRows) (h : ListRows) (lits ends trail levels reasons order stamps : List ℕ)
-    → ListTold n (read_text text) (a-list-text.Is c t h) lits ends trail levels reasons order stamps
+    → ListTold n (read_text text) (Some (record { clauses = c; trail = t; list = h })) lits ends trail levels reasons order stamps
     → (s : Saved) × (read_text text ≡ some s) × WellFormed s × (s.opening.mode ≡ vmtf) × (s.opening.vars ≡ n)
     × Told s c t n h.greatest lits ends trail (levels ∷ reasons ∷ (t.curr ∷ []) ∷ order ∷ stamps ∷ (h.timestamp ∷ []) ∷ (h.search ∷ []) ∷ [])
 told_of {text} {at} {n} w c t h lits ends trail levels reasons order stamps = go (read_text text) refl
   where
-    go : (o : Option Saved) → read_text text ≡ o → ListTold n o (a-list-text.Is c t h) lits ends trail levels reasons order stamps
+    go : (o : Option Saved) → read_text text ≡ o → ListTold n o (Some (record { clauses = c; trail = t; list = h })) lits ends trail levels reasons order stamps
         → (s : Saved) × (o ≡ some s) × WellFormed s × (s.opening.mode ≡ vmtf) × (s.opening.vars ≡ n)
         × Told s c t n h.greatest lits ends trail (levels ∷ reasons ∷ (t.curr ∷ []) ∷ order ∷ stamps ∷ (h.timestamp ∷ []) ∷ (h.search ∷ []) ∷ [])
     go none e k = let z : ◌≡◌ {A = ℕ} 0 1 = cc in absurd (omega arith)
     go (some s) e (c', t', h', same, told) =
         let x = opens_said w s e in
-        let cs : c' ≡ c = cc in
-        let ts : t' ≡ t = cc in
-        let hs : h' ≡ h = cc in (
+        let those : ◌≡◌ {A = ListText} (record { clauses = c'; trail = t'; list = h' }) (record { clauses = c; trail = t; list = h }) = cc in
+        let cs : c' ≡ c = ap (λ (x : ListText). x.clauses) those in
+        let ts : t' ≡ t = ap (λ (x : ListText). x.trail) those in
+        let hs : h' ≡ h = ap (λ (x : ListText). x.list) those in (
           s,
           refl,
           x.0,
@@ -167,14 +171,19 @@ told_of {text} {at} {n} w c t h lits ends trail levels reasons order stamps = go
               (subst (λ (k : ListRows). Told s c' t' n k.greatest lits ends trail (levels ∷ reasons ∷ (t'.curr ∷ []) ∷ order ∷ stamps ∷ (k.timestamp ∷ []) ∷ (k.search ∷ []) ∷ [])) hs told)),
         )
 
+-- the small states, where they were restored
+abbrev pub state_in : Result ListState Unfit → ListState
+state_in (Ok s) = s
+state_in (Err e) = blank
+
 -- What was loaded of what bytes say, as code has it.
-abbrev pub Loads : Option Saved → loading.Loading → (lits ends values levels reasons trail opened next prev ts : List ℕ) → Type 0
-Loads none r lits ends values levels reasons trail opened next prev ts = r ≡ a-session.Bad
-Loads (some s) r lits ends values levels reasons trail opened next prev ts = (l : Loaded) × (r ≡ a-session.Is l)
-    × LoadedIs list_reader s l.literals l.clauses l.good l.passed lits ends (trail_of values levels reasons trail opened l.state.trail) (vmtf_of next prev ts l.state.vmtf)
+abbrev pub Loads : Option Saved → code.Option (Loaded ListState) → (lits ends values levels reasons trail opened next prev ts : List ℕ) → Type 0
+Loads none r lits ends values levels reasons trail opened next prev ts = r ≡ None
+Loads (some s) r lits ends values levels reasons trail opened next prev ts = (l : Loaded ListState) × (r ≡ Some l)
+    × LoadedIs list_reader s l.literals l.clauses (clauses_fit l.state) (is_ok l.state) lits ends (trail_of values levels reasons trail opened (state_in l.state).trail) (vmtf_of next prev ts (state_in l.state).vmtf)
 
 -- lists of n places in front of others
-pub loads_front : (o : Option Saved) (r : loading.Loading) (n : ℕ) (lits ends values levels reasons trail opened next prev ts : List ℕ)
+pub loads_front : (o : Option Saved) (r : code.Option (Loaded ListState)) (n : ℕ) (lits ends values levels reasons trail opened next prev ts : List ℕ)
     → Lengths n values levels reasons trail opened → (length next ≡ n) × (length prev ≡ n) × (length ts ≡ n)
     → (values' levels' reasons' trail' opened' next' prev' ts' : List ℕ) → Loads o r lits ends values levels reasons trail opened next prev ts
     → Loads o r lits ends (take n (values ++ values')) (take n (levels ++ levels')) (take n (reasons ++ reasons')) (take n (trail ++ trail')) (take n (opened ++ opened'))
@@ -191,15 +200,27 @@ loads_front o r n lits ends values levels reasons trail opened next prev ts t (a
       take_at ts ts' n d,
     ) k
 
-pub loads_none : (n : ℕ) (o : Option Saved) (lits ends trail levels reasons order stamps : List ℕ) → ListTold n o a-list-text.Bad lits ends trail levels reasons order stamps → o ≡ none
+pub loads_none : (n : ℕ) (o : Option Saved) (lits ends trail levels reasons order stamps : List ℕ) → ListTold n o None lits ends trail levels reasons order stamps → o ≡ none
 loads_none n none lits ends trail levels reasons order stamps k = refl
 loads_none n (some s) lits ends trail levels reasons order stamps (c, t, h, same, told) = let z : ◌≡◌ {A = ℕ} 0 1 = cc in absurd (omega arith)
 
-abbrev loaded_with : Clauses → ListState → Bool → Bool → Loaded
-loaded_with c state good passed = record { clauses = c.count; literals = c.literals; good = good; passed = passed; state = state }
+abbrev pub loaded_with : Clauses → Result ListState Unfit → Loaded ListState
+loaded_with c state = record { clauses = c.count; literals = c.literals; state = state }
+
+-- what is not passed leaves its memory open
+unpassed : {C : Type 0} {R : Reader C} {s : Saved} {l c : ℕ} {good : Bool} {lits ends : List ℕ} {t t' : Trail} {x x' : C} → LoadedIs R s l c good false lits ends t x → LoadedIs R s l c good false lits ends t' x'
+unpassed i = record {
+  literal_count = i.literal_count;
+  clause_count = i.clause_count;
+  good_clauses = i.good_clauses;
+  held = i.held;
+  state_passed = i.state_passed;
+  trail_said_lem = λ q. absurd (false≢true q);
+  chooser_said = λ q. absurd (false≢true q);
+}
 
 module _ {text : List ℕ} {at n : ℕ} (w : OpensWith text at (opened n true)) (small : n ≤ max_vars) (c : Clauses) (t : TrailRows) (h : ListRows) (lits ends trail levels reasons order stamps : List ℕ)
-    (k : ListTold n (read_text text) (a-list-text.Is c t h) lits ends trail levels reasons order stamps) where
+    (k : ListTold n (read_text text) (Some (record { clauses = c; trail = t; list = h })) lits ends trail levels reasons order stamps) where
   -- what restoring needs
   pub loads_ready : fitting n t.count t.greatest n h.greatest ≡ true → length trail ≡ n → length levels ≡ n → length reasons ≡ n → length order ≡ n → length stamps ≡ n
       → {m : ℕ} → m ≡ n → (s : Saved) × Ready s m t h trail levels reasons order stamps
@@ -207,24 +228,33 @@ module _ {text : List ℕ} {at n : ℕ} (w : OpensWith text at (opened n true)) 
       let x = told_of w c t h lits ends trail levels reasons order stamps k in
       (x.0, ready_for (sym same) (ready h x.2 x.3 x.4 small x.5 fit a b d e f))
 
-  module _ (values' levels' reasons' trail' opened' next' prev' ts' : List ℕ) (state : ListState) where
-    pub loads_bad : clauses_good n c.count c.literals c.greatest ≡ false → Loads (read_text text) (a-session.Is (loaded_with c state false false)) lits ends values' levels' reasons' trail' opened' next' prev' ts'
+  module _ (values' levels' reasons' trail' opened' next' prev' ts' : List ℕ) where
+    abbrev These : Result ListState Unfit → Type 0
+    These state = Loads (read_text text) (Some (loaded_with c state)) lits ends values' levels' reasons' trail' opened' next' prev' ts'
+
+    pub loads_bad : clauses_good n c.count c.literals c.greatest ≡ false → These (Err a-reason.Clauses)
     loads_bad e =
         let x = told_of w c t h lits ends trail levels reasons order stamps k in
-        rw x.1 (loaded_with c state false false, refl, loaded_bad h x.2 x.3 x.4 small x.5 _ _ e)
+        rw x.1 (loaded_with c (Err a-reason.Clauses), refl, loaded_bad h x.2 x.3 x.4 small x.5 _ _ e)
 
     module _ (good : clauses_good n c.count c.literals c.greatest ≡ true) where
-      pub loads_unfit : fitting n t.count t.greatest n h.greatest ≡ false → Loads (read_text text) (a-session.Is (loaded_with c state true false)) lits ends values' levels' reasons' trail' opened' next' prev' ts'
+      pub loads_unfit : fitting n t.count t.greatest n h.greatest ≡ false → These (Err a-reason.State)
       loads_unfit e =
           let x = told_of w c t h lits ends trail levels reasons order stamps k in
-          rw x.1 (loaded_with c state true false, refl, loaded_unfit h x.2 x.3 x.4 small x.5 _ _ good e)
+          rw x.1 (loaded_with c (Err a-reason.State), refl, loaded_unfit h x.2 x.3 x.4 small x.5 _ _ good e)
 
-      pub loads_all : fitting n t.count t.greatest n h.greatest ≡ true → length trail ≡ n → length levels ≡ n → length reasons ≡ n → length order ≡ n → length stamps ≡ n
-          → {m : ℕ} → m ≡ n
-          → ((s : Saved) → Ready s m t h trail levels reasons order stamps → (trail_of values' levels' reasons' trail' opened' state.trail ≡ trail_said s) × (vmtf_of next' prev' ts' state.vmtf ≡ list_said s))
-          → {passed : Bool} → passed ≡ state_ok c.count (trail_of values' levels' reasons' trail' opened' state.trail) (vmtf_of next' prev' ts' state.vmtf)
-          → Loads (read_text text) (a-session.Is (loaded_with c state true passed)) lits ends values' levels' reasons' trail' opened' next' prev' ts'
-      loads_all fit a b d e f same restored {passed} passes =
-          let x = told_of w c t h lits ends trail levels reasons order stamps k in
-          let is = restored x.0 (ready_for (sym same) (ready h x.2 x.3 x.4 small x.5 fit a b d e f)) in
-          rw x.1 (loaded_with c state true passed, refl, loaded_all h x.2 x.3 x.4 small x.5 _ _ good fit is.0 is.1 passes)
+      module _ (fit : fitting n t.count t.greatest n h.greatest ≡ true) (a : length trail ≡ n) (b : length levels ≡ n) (d : length reasons ≡ n) (e : length order ≡ n) (f : length stamps ≡ n)
+          {m : ℕ} (same : m ≡ n) {state : ListState}
+          (restored : (s : Saved) → Ready s m t h trail levels reasons order stamps → (trail_of values' levels' reasons' trail' opened' state.trail ≡ trail_said s) × (vmtf_of next' prev' ts' state.vmtf ≡ list_said s)) where
+        loads_checked : {passed : Bool} → passed ≡ state_ok c.count (trail_of values' levels' reasons' trail' opened' state.trail) (vmtf_of next' prev' ts' state.vmtf)
+            → (s : Saved) × (read_text text ≡ some s) × LoadedIs list_reader s c.literals c.count true passed lits ends (trail_of values' levels' reasons' trail' opened' state.trail) (vmtf_of next' prev' ts' state.vmtf)
+        loads_checked passes =
+            let x = told_of w c t h lits ends trail levels reasons order stamps k in
+            let is = restored x.0 (ready_for (sym same) (ready h x.2 x.3 x.4 small x.5 fit a b d e f)) in
+            (x.0, x.1, loaded_all h x.2 x.3 x.4 small x.5 _ _ good fit is.0 is.1 passes)
+
+        pub loads_all : true ≡ state_ok c.count (trail_of values' levels' reasons' trail' opened' state.trail) (vmtf_of next' prev' ts' state.vmtf) → These (Ok state)
+        loads_all passes = let x = loads_checked passes in rw x.1 (loaded_with c (Ok state), refl, x.2)
+
+        pub loads_failed : false ≡ state_ok c.count (trail_of values' levels' reasons' trail' opened' state.trail) (vmtf_of next' prev' ts' state.vmtf) → These (Err a-reason.State)
+        loads_failed fails = let x = loads_checked fails in rw x.1 (loaded_with c (Err a-reason.State), refl, unpassed x.2)

@@ -16,6 +16,7 @@ use Rattle.session.specs.Mode.{lengths_ok}
 use Rattle.session.proofs.Entered.{passed_good}
 use Rattle.choosers.specs.List.{list_ops}
 use Rattle.list_session.specs.declared.ListState.{ListState}
+use Rattle.list_session.specs.declared.ListView.{ListView}
 use Rattle.list_session.specs.Good.{GoodSession}
 use Rattle.list_session.specs.Check.{state_ok}
 use Rattle.list_entry.specs.Entry.{list_mode}
@@ -110,6 +111,16 @@ session_lines {n} {lits} {ends} {values} {levels} {reasons} {trail} {opened} {ne
       short = rw (session_text_lem n lits ends values levels reasons trail opened next prev ts s) at
           (text_length n lits ends (trail_of values levels reasons trail opened s.trail) (vmtf_of next prev ts s.vmtf) (cs, g, wide));
     }
+
+-- both of a session that is looked at
+abbrev pub state_seen : ListView → ListState
+state_seen v = record { trail = v.trail.at; vmtf = v.vmtf.at }
+
+abbrev pub text_seen : ℕ → List ℕ → List ℕ → ListView → List ℕ
+text_seen n lits ends v = session_text n lits ends v.trail.levels.now v.trail.reasons.now v.trail.codes.now v.vmtf.next.now v.vmtf.ts.now (state_seen v)
+
+abbrev pub LinesSeen : ℕ → List ℕ → List ℕ → ListView → Type 0
+LinesSeen n lits ends v = Lines n lits ends v.trail.levels.now v.trail.reasons.now v.trail.codes.now v.vmtf.next.now v.vmtf.ts.now (state_seen v)
 
 -- Memory that was lent and not refused is a session that can be written, as its types say of its timestamp.
 pub lent_savable : (n m : ℕ) (lits : List ℕ) (literals : ℕ) (ends : List ℕ) (s : Session n m (list_ops n lits))

@@ -1,178 +1,106 @@
-// The text of a session in list mode, which is written or only counted.
-ghost use Rattle.std.specs.Prelude.{◌≡◌, ◌≤◌, leb, length};
-ghost use Rattle.saved_text.specs.Puts.{Puts, Room};
-ghost use Rattle.saved_state.specs.Pieces.{few};
-ghost use Rattle.list_saved.specs.Pieces.{list_text, session_text, ListLines, Lines};
+// The text of a session in list mode, which goes to a buffer or is only counted.
+ghost use Rattle.std.specs.Prelude.{◌≡◌, ◌+◌, ◌≤◌, leb, length};
+ghost use Rattle.lit.specs.Numbers.{max_vars};
+ghost use Rattle.forms.specs.Written.{Wrote};
+ghost use Rattle.list_saved.specs.Pieces.{list_text, ListLines, text_seen, LinesSeen};
 
 use forms::letters::VMTF;
-use list_session::ListState;
+use formula::Clauses;
+use list_session::ListView;
 use lit::NONE;
 use saved_state::saving::{ALL, FEW, longest, put_front};
 use saved_state::writing::{order_of, stamps_of};
 use saved_text::letters::{ORDER, SEARCH, STAMPS, TIMESTAMP};
-use saved_text::writing::{Kind, LONGEST, put_longs, put_words};
-use vmtf::VmtfState;
+use saved_text::number::{Long, Word};
+use saved_text::sink::{Buffer, Count, Sink};
+use vmtf::VmtfView;
 
 // The lines of the list: its variables from the front, their stamps, the timestamp, and where the search starts.
-fn put_list(
-    out: &mut [u8],
-    at: usize,
-    next: &[u32],
-    ts: &[u64],
-    l: VmtfState,
-    words: &mut [u32],
-    longs: &mut [u64],
-    write: bool,
-) -> usize
-    requires list_lines { ListLines (length next.now) next.now ts.now l × (length words.old ≡ length next.now) × (length longs.old ≡ length next.now) }
-    requires room { Room write at (list_text next.now ts.now l) out.old }
-    ensures { Puts write at (list_text next.now ts.now l) out.old out.new result }
+fn put_list<S: Sink>(sink: &mut S, l: VmtfView<'_>, words: &mut [u32], longs: &mut [u64])
+    requires list_lines { ListLines (length l.next.now) l.next.now l.ts.now l.at × (length words.old ≡ length l.next.now) × (length longs.old ≡ length l.next.now) }
+    requires room { S.room sink.old (list_text l.next.now l.ts.now l.at) }
+    ensures { S.puts sink.old (list_text l.entry.next.now l.entry.ts.now l.entry.at) sink.new }
 {
-    let stamp = [l.timestamp];
-    let place = [l.search];
-    order_of(next, l.start, words);
-    stamps_of(words, ts, longs);
-    let mut end = put_words(out, at, ORDER, Kind::UpTo(NONE as u64), words, write);
-    end = put_longs(out, end, STAMPS, Kind::UpTo(LONGEST), longs, write);
-    end = put_longs(out, end, TIMESTAMP, Kind::UpTo(LONGEST), &stamp, write);
-    put_words(out, end, SEARCH, Kind::Reason, &place, write)
+    let stamp = [l.at.timestamp];
+    let place = [l.at.search];
+    order_of(l.next, l.at.start, words);
+    stamps_of(words, l.ts, longs);
+    sink.row(ORDER, Word::UpTo(NONE), words);
+    sink.row(STAMPS, Long::Number, longs);
+    sink.row(TIMESTAMP, Long::Number, &stamp);
+    sink.row(SEARCH, Word::Reason, &place);
 }
 
-// The text of a session, from the buffer's front on. The scratch has room for the variables.
-fn put_session(
-    out: &mut [u8],
+// The text of a session. The scratch has room for the variables.
+fn put_session<S: Sink>(
+    sink: &mut S,
     n: u32,
-    lits: &[u32],
-    ends: &[u32],
-    levels: &[u32],
-    reasons: &[u32],
-    trail: &[u32],
-    next: &[u32],
-    ts: &[u64],
-    s: ListState,
+    list: Clauses<'_>,
+    seen: ListView<'_>,
     words: &mut [u32],
     longs: &mut [u64],
-    write: bool,
-) -> usize
-    requires fact { let text = session_text n lits.now ends.now levels.now reasons.now trail.now next.now ts.now s in
-        Lines n lits.now ends.now levels.now reasons.now trail.now next.now ts.now s × Room write 0 text out.old }
+)
+    requires lines { LinesSeen n list.lits.now list.ends.now seen }
+    requires room { S.room sink.old (text_seen n list.lits.now list.ends.now seen) }
     requires n_in_bounds { (n ≤ length words.old) × (n ≤ length longs.old) }
-    ensures { let text = session_text n lits.now ends.now levels.now reasons.now trail.now
-        next.now ts.now s in
-        Puts write 0 text out.old out.new result }
+    ensures { S.puts sink.old (text_seen n list.entry.lits.now list.entry.ends.now seen.entry) sink.new }
 {
-    let t = s.trail;
-    let l = s.vmtf;
-    let k = t.len as usize;
-    let v = n as usize;
-    let end = put_front(
-        out,
-        n,
-        &VMTF,
-        lits,
-        ends,
-        &trail[..k],
-        levels,
-        reasons,
-        t.curr_i,
-        &mut words[..k],
-        write,
-    );
+    let k = seen.trail.at.len as usize;
+    put_front(sink, n, &VMTF, list, seen.trail, &mut words[..k]);
     put_list(
-        out,
-        end,
-        next,
-        ts,
-        l,
-        &mut words[..v],
-        &mut longs[..v],
-        write,
-    )
+        sink,
+        seen.vmtf,
+        &mut words[..n as usize],
+        &mut longs[..n as usize],
+    );
 }
 
-// The same with a scratch for few variables.
-fn put_few(
-    out: &mut [u8],
-    n: u32,
-    lits: &[u32],
-    ends: &[u32],
-    levels: &[u32],
-    reasons: &[u32],
-    trail: &[u32],
-    next: &[u32],
-    ts: &[u64],
-    s: ListState,
-    write: bool,
-) -> usize
-    requires fact { let text = session_text n lits.now ends.now levels.now reasons.now trail.now next.now ts.now s in
-        Lines n lits.now ends.now levels.now reasons.now trail.now next.now ts.now s × Room write 0 text out.old }
-    requires n_le_few { n ≤ few }
-    ensures { let text = session_text n lits.now ends.now levels.now reasons.now trail.now
-        next.now ts.now s in
-        Puts write 0 text out.old out.new result }
+// The same with a scratch that has room for VARS variables.
+fn put_in<S: Sink, const VARS: usize>(sink: &mut S, n: u32, list: Clauses<'_>, seen: ListView<'_>)
+    requires lines { LinesSeen n list.lits.now list.ends.now seen }
+    requires room { S.room sink.old (text_seen n list.lits.now list.ends.now seen) }
+    requires sizes { VARS ≤ max_vars + 16 }
+    requires vars { n ≤ VARS }
+    ensures { S.puts sink.old (text_seen n list.entry.lits.now list.entry.ends.now seen.entry) sink.new }
 {
-    let mut words = [0u32; FEW as usize];
-    let mut longs = [0u64; FEW as usize];
-    put_session(
-        out, n, lits, ends, levels, reasons, trail, next, ts, s, &mut words, &mut longs, write,
-    )
+    let mut words = [0u32; VARS];
+    let mut longs = [0u64; VARS];
+    put_session(sink, n, list, seen, &mut words, &mut longs);
 }
 
 // The same with any number of variables.
-pub fn put_text(
-    out: &mut [u8],
-    n: u32,
-    lits: &[u32],
-    ends: &[u32],
-    levels: &[u32],
-    reasons: &[u32],
-    trail: &[u32],
-    next: &[u32],
-    ts: &[u64],
-    s: ListState,
-    write: bool,
-) -> usize
-    requires { let text = session_text n lits.now ends.now levels.now reasons.now trail.now next.now ts.now s in
-        Lines n lits.now ends.now levels.now reasons.now trail.now next.now ts.now s × Room write 0 text out.old }
-    ensures { let text = session_text n lits.now ends.now levels.now reasons.now trail.now
-        next.now ts.now s in
-        Puts write 0 text out.old out.new result }
+pub fn put_all<S: Sink>(sink: &mut S, n: u32, list: Clauses<'_>, seen: ListView<'_>)
+    requires lines { LinesSeen n list.lits.now list.ends.now seen }
+    requires room { S.room sink.old (text_seen n list.lits.now list.ends.now seen) }
+    ensures { S.puts sink.old (text_seen n list.entry.lits.now list.entry.ends.now seen.entry) sink.new }
 {
-    if n <= FEW {
-        return put_few(
-            out, n, lits, ends, levels, reasons, trail, next, ts, s, write,
-        );
+    if n as usize <= FEW {
+        put_in::<S, FEW>(sink, n, list, seen);
+    } else {
+        put_in::<S, ALL>(sink, n, list, seen);
     }
-    let mut words = [0u32; ALL as usize];
-    let mut longs = [0u64; ALL as usize];
-    put_session(
-        out, n, lits, ends, levels, reasons, trail, next, ts, s, &mut words, &mut longs, write,
-    )
 }
 
-// Whether the text has room in the buffer: its bytes are counted only where a longer text would not have.
-pub fn text_fits(
-    out: &mut [u8],
-    n: u32,
-    lits: &[u32],
-    ends: &[u32],
-    levels: &[u32],
-    reasons: &[u32],
-    trail: &[u32],
-    next: &[u32],
-    ts: &[u64],
-    s: ListState,
-) -> bool
-    requires { Lines n lits.now ends.now levels.now reasons.now trail.now next.now ts.now s }
-    ensures { let text = session_text n lits.now ends.now levels.now reasons.now trail.now
-        next.now ts.now s in
-        (result ≡ leb (length text) (length out.old)) × (out.new ≡ out.old) }
+// Writes the text from the buffer's front on, and gives its length.
+pub fn put_text(out: &mut [u8], n: u32, list: Clauses<'_>, seen: ListView<'_>) -> usize
+    requires lines { LinesSeen n list.lits.now list.ends.now seen }
+    requires room { length (text_seen n list.lits.now list.ends.now seen) ≤ length out.old }
+    ensures { Wrote 0 (text_seen n list.entry.lits.now list.entry.ends.now seen.entry) out.old out.new result }
 {
-    if out.len() >= longest(n, ends.len(), lits.len()) {
+    let mut buffer = Buffer { out, at: 0 };
+    put_all(&mut buffer, n, list, seen);
+    buffer.at
+}
+
+// Whether the text has so much room: its bytes are counted only where a longer text would not have.
+pub fn text_fits(room: usize, n: u32, list: Clauses<'_>, seen: ListView<'_>) -> bool
+    requires { LinesSeen n list.lits.now list.ends.now seen }
+    ensures { result ≡ leb (length (text_seen n list.entry.lits.now list.entry.ends.now seen.entry)) room }
+{
+    if room >= longest(n, list.ends.len(), list.lits.len()) {
         return true;
     }
-    let end = put_text(
-        out, n, lits, ends, levels, reasons, trail, next, ts, s, false,
-    );
-    end <= out.len()
+    let mut count = Count { bytes: 0 };
+    put_all(&mut count, n, list, seen);
+    count.bytes <= room
 }

@@ -1,106 +1,99 @@
-// A session in list mode: the trail and the move-to-front list over lent slices, and the eleven calls on it.
-ghost use Rattle.std.specs.Prelude.{◌≡◌, List, ℕ, ◌≤◌, length};
-ghost use Rattle.lit.specs.Numbers as number;
-ghost use Rattle.trail.specs.Memory.{trail_of, Lengths};
-ghost use Rattle.vmtf.specs.Vmtf.{vmtf_of};
+// The eleven calls on a session in list mode.
+ghost use Rattle.std.specs.Prelude.{◌≡◌, List, ℕ};
+ghost use Rattle.lit.specs.Refusals.{status_of};
+ghost use Rattle.trail.specs.Memory as on_trail;
+ghost use Rattle.trail.specs.Memory.{trail_in};
+ghost use Rattle.vmtf.specs.Vmtf as on_list;
+ghost use Rattle.vmtf.specs.Vmtf.{vmtf_in};
 ghost use Rattle.session.specs.Calls.{call_of};
 ghost use Rattle.session.specs.Asked.{asks};
 ghost use Rattle.session.specs.Entered.{RightScratch};
-ghost use Rattle.list_session.specs.Memory.{session_of, Answers, cleared};
+ghost use Rattle.list_session.specs.Memory.{held, trail_held, vmtf_held, session_in, SameSlices, Answers, cleared};
 ghost use Rattle.list_session.specs.Good.{GoodSession};
-ghost use Rattle.list_session.specs.Check.{state_ok};
 ghost use Rattle.list_session.specs.Scratch.{clears};
 
-use crate::{ListAnswer, ListState, accept, decide, group, tested, with_list};
+use crate::{ListSession, ListState, decide, group, tested};
 use activity::good_decay;
-use lit::{BAD_DECAY, NO_VARIABLE, NONE};
+use lit::Refusal;
 use session::{Call, on_trail};
+use trail::Trail;
+use vmtf::Vmtf;
 
-// A call on a good session. The stamps and the order are a group's scratch.
-pub fn step(
+// A call on a good trail and a good list. The stamps and the order are a group's scratch.
+fn step_on(
     n: u32,
     m: u32,
-    values: &mut [u8],
-    levels: &mut [u32],
-    reasons: &mut [u32],
-    trail: &mut [u32],
-    opened: &mut [u32],
-    next: &mut [u32],
-    prev: &mut [u32],
-    ts: &mut [u64],
-    s: ListState,
+    trail: &mut Trail<'_>,
+    vmtf: &mut Vmtf<'_>,
     call: Call,
     vars: &[u32],
     stamps: &mut [u64],
     order: &mut [u32],
-) -> ListAnswer
-    requires fact { let t = trail_of values.old levels.old reasons.old trail.old opened.old s.trail in
-        let l = vmtf_of next.old prev.old ts.old s.vmtf in
-        GoodSession n m t l }
+) -> Result<Option<u32>, Refusal>
+    requires good { GoodSession n m (trail_in trail.old) (vmtf_in vmtf.old) }
     requires right_scratch { RightScratch (asks call vars.now stamps.old order.old) }
-    ensures by_index { (lits : List ℕ) →
-        let before = session_of n m lits
-        values.old levels.old reasons.old trail.old opened.old
-        next.old prev.old ts.old s in
-        let after = session_of n m lits
-        values.new levels.new reasons.new trail.new opened.new
-        next.new prev.new ts.new result.state in
+    ensures answered { (lits : List ℕ) →
+        let before = held n m lits (trail_in trail.old) (vmtf_in vmtf.old) in
+        let after = held n m lits (trail_in trail.new) (vmtf_in vmtf.new) in
         Answers n m lits (call_of call vars.now) before result after }
-    ensures fact_2 { let used = clears call result.status in
+    ensures scratch { let used = clears call (status_of result) in
         (stamps.new ≡ cleared used stamps.old) × (order.new ≡ cleared used order.old) }
+    ensures same_trail { on_trail.SameSlices trail.old trail.new }
+    ensures same_list { on_list.SameSlices vmtf.old vmtf.new }
 {
-    let t = s.trail;
-    let l = s.vmtf;
     match call {
-        Call::Bump(v) => tested(v < n, NO_VARIABLE, s),
-        Call::Decay => accept(NONE, s),
-        Call::SetDecay(d) => tested(good_decay(d), BAD_DECAY, s),
-        Call::Insert(v) => tested(v < n, NO_VARIABLE, s),
-        Call::SwitchOff(v) => tested(v < n, NO_VARIABLE, s),
-        Call::Decide(p) => decide(values, levels, reasons, trail, opened, next, s, p),
-        Call::Enqueue(code, reason) => {
-            let a = on_trail::enqueue(
-                n, m, values, levels, reasons, trail, opened, t, code, reason,
-            );
-            with_list(a, l)
-        }
-        Call::LearnUnit(code) => {
-            let a = on_trail::learn_unit(n, values, levels, reasons, trail, opened, t, code);
-            with_list(a, l)
-        }
-        Call::GoBack(level) => {
-            let a = on_trail::go_back(values, levels, reasons, trail, opened, t, level);
-            with_list(a, l)
-        }
-        Call::BumpReason(v) => tested(v < n, NO_VARIABLE, s),
-        Call::Group => group(n, next, prev, ts, s, vars, stamps, order),
+        Call::Bump(v) => tested(v < n, Refusal::NoVariable),
+        Call::Decay => Ok(None),
+        Call::SetDecay(d) => tested(good_decay(d), Refusal::BadDecay),
+        Call::Insert(v) => tested(v < n, Refusal::NoVariable),
+        Call::SwitchOff(v) => tested(v < n, Refusal::NoVariable),
+        Call::Decide(p) => decide(trail, vmtf, p),
+        Call::Enqueue(code, reason) => on_trail::enqueue(n, m, trail, code, reason),
+        Call::LearnUnit(code) => on_trail::learn_unit(n, trail, code),
+        Call::GoBack(level) => Ok(Some(on_trail::go_back(trail, level))),
+        Call::BumpReason(v) => tested(v < n, Refusal::NoVariable),
+        Call::Group => group(n, vmtf, vars, stamps, order),
     }
 }
 
-// Whether the trail and the list are good.
-pub fn check_state(
-    m: u32,
-    values: &[u8],
-    levels: &[u32],
-    reasons: &[u32],
-    trail: &[u32],
-    opened: &[u32],
-    next: &[u32],
-    prev: &[u32],
-    ts: &[u64],
-    s: ListState,
-) -> bool
-    requires lengths { Lengths (length values.now) values.now levels.now reasons.now trail.now opened.now
-        × (length values.now ≤ number.max_vars) }
-    requires prev_len { (length prev.now ≡ length next.now) × (length ts.now ≡ length next.now) }
-    ensures { let t = trail_of values.now levels.now reasons.now trail.now opened.now s.trail in
-        let l = vmtf_of next.now prev.now ts.now s.vmtf in
-        result ≡ state_ok m t l }
-{
-    let t = s.trail;
-    let l = s.vmtf;
-    if !trail_check::check_trail(m, values, levels, reasons, trail, opened, t) {
-        return false;
+impl ListSession<'_> {
+    // A call on a good session.
+    pub fn step(
+        &mut self,
+        n: u32,
+        m: u32,
+        call: Call,
+        vars: &[u32],
+        stamps: &mut [u64],
+        order: &mut [u32],
+    ) -> Result<Option<u32>, Refusal>
+        requires good { GoodSession n m (trail_held self.old) (vmtf_held self.old) }
+        requires right_scratch { RightScratch (asks call vars.now stamps.old order.old) }
+        ensures answered { (lits : List ℕ) →
+            Answers n m lits (call_of call vars.now) (session_in n m lits self.old) result (session_in n m lits self.new) }
+        ensures scratch { let used = clears call (status_of result) in
+            (stamps.new ≡ cleared used stamps.old) × (order.new ≡ cleared used order.old) }
+        ensures same_slices { SameSlices self.old self.new }
+    {
+        let mut trail = Trail {
+            values: self.values,
+            levels: self.levels,
+            reasons: self.reasons,
+            codes: self.trail,
+            opened: self.opened,
+            at: self.at.trail,
+        };
+        let mut vmtf = Vmtf {
+            next: self.next,
+            prev: self.prev,
+            ts: self.ts,
+            at: self.at.vmtf,
+        };
+        let given = step_on(n, m, &mut trail, &mut vmtf, call, vars, stamps, order);
+        self.at = ListState {
+            trail: trail.at,
+            vmtf: vmtf.at,
+        };
+        given
     }
-    vmtf::check_list(next, prev, ts, l)
 }

@@ -2,3 +2,4 @@
 pub mod Numbers
 pub mod Lits
 pub mod Unused
+pub mod Refusals

@@ -3,6 +3,7 @@
 
 ghost use Rattle.std.specs.Prelude.{◌≡◌, ◌+◌, ◌*◌, ◌/◌, ◌<◌, ◌≤◌, length};
 ghost use Rattle.lit.specs.Lits as spec;
+ghost use Rattle.lit.specs.Refusals.{refusal_number};
 ghost use Rattle.lit.specs.Unused as unused;
 
 pub const NONE: u32 = 4294967295;
@@ -28,33 +29,38 @@ pub const MAX_SHEET: u32 = 32768;
 pub const ANSWER_ROOM: u32 = 24;
 
 // The refusals, in checking order.
+#[derive(Clone, Copy, PartialEq, Eq, Debug)]
+pub enum Refusal {
+    LongSheet = 1,
+    ShortBuffer,
+    BadLine,
+    ManyVars,
+    BadLength,
+    BadClauses,
+    BadState,
+    NoVariable,
+    BadPolarity,
+    BadReason,
+    Assigned,
+    BadDecay,
+    LargeStep,
+    PastOpen,
+    BadSaved,
+}
+
+impl Refusal {
+    // The refusal's number, from 1 on.
+    pub fn number(self) -> u32
+        ensures { result ≡ refusal_number self }
+    {
+        self as u32
+    }
+}
+
+// The numbers of refusals that are named alone.
 pub const LONG_SHEET: u32 = 1;
 
 pub const SHORT_BUFFER: u32 = 2;
-
-pub const BAD_LINE: u32 = 3;
-
-pub const MANY_VARS: u32 = 4;
-
-pub const BAD_LENGTH: u32 = 5;
-
-pub const BAD_CLAUSES: u32 = 6;
-
-pub const BAD_STATE: u32 = 7;
-
-pub const NO_VARIABLE: u32 = 8;
-
-pub const BAD_POLARITY: u32 = 9;
-
-pub const BAD_REASON: u32 = 10;
-
-pub const ASSIGNED: u32 = 11;
-
-pub const BAD_DECAY: u32 = 12;
-
-pub const LARGE_STEP: u32 = 13;
-
-pub const PAST_OPEN: u32 = 14;
 
 pub const BAD_SAVED: u32 = 15;
 
@@ -136,25 +142,14 @@ pub fn lit_set(code: u32, values: &[u8]) -> bool
 pub fn lit_in_clause(code: u32, clause: &[u32]) -> bool
     ensures { result ≡ spec.lit_in_clause code clause.now }
 {
-    let mut i = 0;
-    while i < clause.len() {
-        if clause[i] == code {
-            return true;
-        }
-        i += 1;
-    }
-    false
+    clause.contains(&code)
 }
 
 // Makes every variable unassigned.
 pub fn new_assignments(values: &mut [u8])
     ensures { values.new ≡ spec.new_assignments (length values.old) }
 {
-    let mut i = 0;
-    while i < values.len() {
-        values[i] = UNASSIGNED;
-        i += 1;
-    }
+    values.fill(UNASSIGNED);
 }
 
 // Makes the literal hold.
@@ -179,12 +174,10 @@ pub fn unused_ok(a: &[u32], used: u32) -> bool
     ensures { result ≡ unused.unused_ok a.now used }
 {
     let mut ok = true;
-    let mut i = used as usize;
-    while i < a.len() {
-        if a[i] != NONE {
+    for x in &a[used as usize..] {
+        if *x != NONE {
             ok = false;
         }
-        i += 1;
     }
     ok
 }

@@ -5,153 +5,112 @@ mod order;
 
 ghost use Rattle.std.specs.Prelude.{◌≡◌, ◌≢◌, List, ℕ, ◌<◌, length, replicate};
 ghost use Rattle.vmtf.specs.Vmtf as spec;
-ghost use Rattle.vmtf.specs.Vmtf.{vmtf_of, Links, Safe, Vars, Group};
+ghost use Rattle.vmtf.specs.Vmtf.{vmtf_in, SameSlices, Links, Safe, Vars, Group};
 
 use lit::NONE;
 use order::group_order;
-use vmtf::{VmtfState, clear, fill};
+use vmtf::Vmtf;
 
 pub mod creation;
 
-// The largest stamp.
-const MAX_STAMP: u64 = 18446744073709551615;
-
-// Stamps the variables from start on along the next links, as many as there are down to 1.
-fn renumber(next: &[u32], ts: &mut [u64], start: u32)
-    requires { Links (length ts.old) next.now start }
-    ensures { ts.new ≡ spec.renumber next.now (length next.now) start ts.old }
+// Stamps the variables from the front on along the next links, as many as there are down to 1.
+fn renumber(list: &mut Vmtf<'_>)
+    requires { Links (length list.old.ts.now) list.old.next.now list.old.at.start }
+    ensures renumbered { let before = vmtf_in list.old in
+        let ts = spec.renumber before.next (length before.next) before.start before.ts in
+        vmtf_in list.new ≡ spec.with_stamps ts before.timestamp before }
+    ensures same_slices { SameSlices list.old list.new }
 {
-    let mut score = next.len();
-    let mut curr = start;
-    while curr != NONE {
-        ts[curr as usize] = score as u64;
-        if score == 0 {
+    let mut curr = list.at.start;
+    for score in (0..list.next.len() + 1).rev() {
+        if curr == NONE {
             return;
         }
-        score -= 1;
-        curr = next[curr as usize];
+        list.ts[curr as usize] = score as u64;
+        curr = list.next[curr as usize];
     }
 }
 
 // Stamps the whole list anew, so that stamps are small again. It leaves the links before a variable, whatever they are.
-fn rescore(next: &[u32], ts: &mut [u64], s: VmtfState) -> VmtfState
-    requires { Links (length ts.old) next.now s.start }
-    ensures { (prev : List ℕ) →
-        let before = vmtf_of next.now prev ts.old s in
-        let after = vmtf_of next.now prev ts.new result in
-        after ≡ spec.rescore before }
+fn rescore(list: &mut Vmtf<'_>)
+    requires { Links (length list.old.ts.now) list.old.next.now list.old.at.start }
+    ensures rescored { vmtf_in list.new ≡ spec.rescore (vmtf_in list.old) }
+    ensures same_slices { SameSlices list.old list.new }
 {
-    renumber(next, ts, s.start);
-    let mut scored = s;
-    scored.timestamp = next.len() as u64 + 1;
-    scored
+    renumber(list);
+    list.at.timestamp = list.next.len() as u64 + 1;
 }
 
 // Takes v, which is not at the front, out of the links and puts it before the front, with the next stamp.
-fn relink(next: &mut [u32], prev: &mut [u32], ts: &mut [u64], s: VmtfState, v: u32) -> VmtfState
-    requires safe { Safe (length next.old) (vmtf_of next.old prev.old ts.old s) }
-    requires v_in_bounds { (v < length next.old) × (v ≢ s.start) }
-    ensures { let before = vmtf_of next.old prev.old ts.old s in
-        let after = vmtf_of next.new prev.new ts.new result in
-        after ≡ spec.relink v before }
+fn relink(list: &mut Vmtf<'_>, v: u32)
+    requires safe { Safe (length list.old.next.now) (vmtf_in list.old) }
+    requires v_in_bounds { (v < length list.old.next.now) × (v ≢ list.old.at.start) }
+    ensures relinked { vmtf_in list.new ≡ spec.relink v (vmtf_in list.old) }
+    ensures same_slices { SameSlices list.old list.new }
 {
-    let start = s.start;
-    let before = prev[v as usize];
-    let after = next[v as usize];
-    prev[v as usize] = NONE;
-    next[v as usize] = start;
-    ts[v as usize] = s.timestamp;
-    prev[start as usize] = v;
-    next[before as usize] = after;
+    let start = list.at.start;
+    let before = list.prev[v as usize];
+    let after = list.next[v as usize];
+    list.prev[v as usize] = NONE;
+    list.next[v as usize] = start;
+    list.ts[v as usize] = list.at.timestamp;
+    list.prev[start as usize] = v;
+    list.next[before as usize] = after;
     if after != NONE {
-        prev[after as usize] = before;
+        list.prev[after as usize] = before;
     }
-    let mut moved = s;
-    moved.start = v;
-    moved
+    list.at.start = v;
 }
 
 // The next timestamp; after the largest stamp the list is stamped anew.
-fn tick(next: &[u32], ts: &mut [u64], s: VmtfState) -> VmtfState
-    requires { Links (length ts.old) next.now s.start }
-    ensures { (prev : List ℕ) →
-        let before = vmtf_of next.now prev ts.old s in
-        let after = vmtf_of next.now prev ts.new result in
-        after ≡ spec.tick before }
+fn tick(list: &mut Vmtf<'_>)
+    requires { Links (length list.old.ts.now) list.old.next.now list.old.at.start }
+    ensures ticked { vmtf_in list.new ≡ spec.tick (vmtf_in list.old) }
+    ensures same_slices { SameSlices list.old list.new }
 {
-    if s.timestamp == MAX_STAMP {
-        return rescore(next, ts, s);
+    if list.at.timestamp == u64::MAX {
+        rescore(list);
+    } else {
+        list.at.timestamp += 1;
     }
-    let mut ticked = s;
-    ticked.timestamp += 1;
-    ticked
 }
 
 // Moves a variable to the front with a new stamp, unless it is there.
-fn move_to_front(
-    next: &mut [u32],
-    prev: &mut [u32],
-    ts: &mut [u64],
-    s: VmtfState,
-    tomove: u32,
-) -> VmtfState
-    requires safe { Safe (length next.old) (vmtf_of next.old prev.old ts.old s) }
-    requires tomove_in_bounds { tomove < length next.old }
-    ensures { let before = vmtf_of next.old prev.old ts.old s in
-        let after = vmtf_of next.new prev.new ts.new result in
-        after ≡ spec.move_to_front tomove before }
+fn move_to_front(list: &mut Vmtf<'_>, tomove: u32)
+    requires safe { Safe (length list.old.next.now) (vmtf_in list.old) }
+    requires tomove_in_bounds { tomove < length list.old.next.now }
+    ensures moved { vmtf_in list.new ≡ spec.move_to_front tomove (vmtf_in list.old) }
+    ensures same_slices { SameSlices list.old list.new }
 {
-    if tomove == s.start {
-        return s;
+    if tomove != list.at.start {
+        relink(list, tomove);
+        tick(list);
     }
-    let moved = relink(next, prev, ts, s, tomove);
-    tick(next, ts, moved)
 }
 
 // Moves variables to the front, one after the other.
-fn move_all(
-    next: &mut [u32],
-    prev: &mut [u32],
-    ts: &mut [u64],
-    s: VmtfState,
-    vars: &[u32],
-) -> VmtfState
-    requires safe { Safe (length next.old) (vmtf_of next.old prev.old ts.old s) }
-    requires vars { Vars (length next.old) vars.now }
-    ensures { let before = vmtf_of next.old prev.old ts.old s in
-        let after = vmtf_of next.new prev.new ts.new result in
-        after ≡ spec.move_all vars.now before }
+fn move_all(list: &mut Vmtf<'_>, vars: &[u32])
+    requires safe { Safe (length list.old.next.now) (vmtf_in list.old) }
+    requires vars { Vars (length list.old.next.now) vars.now }
+    ensures moved { vmtf_in list.new ≡ spec.move_all vars.now (vmtf_in list.old) }
+    ensures same_slices { SameSlices list.old list.new }
 {
-    let mut state = s;
-    let mut k = 0;
-    while k < vars.len() {
-        state = move_to_front(next, prev, ts, state, vars[k]);
-        k += 1;
+    for &v in vars {
+        move_to_front(list, v);
     }
-    state
 }
 
 // Moves a group to the front, in rising order of the stamps that its variables have at entry. The stamps and the order are scratch.
-pub fn bump_vec_of_vars(
-    next: &mut [u32],
-    prev: &mut [u32],
-    ts: &mut [u64],
-    s: VmtfState,
-    vars: &[u32],
-    stamps: &mut [u64],
-    order: &mut [u32],
-) -> VmtfState
-    requires safe { Safe (length next.old) (vmtf_of next.old prev.old ts.old s) }
-    requires group { Group vars.now ts.old stamps.old order.old }
-    ensures after_after { let before = vmtf_of next.old prev.old ts.old s in
-        let after = vmtf_of next.new prev.new ts.new result in
-        after ≡ spec.bump_vec_of_vars vars.now before }
-    ensures fact { let zeros : List ℕ = replicate (length vars.now) 0 in
+pub fn bump_vec_of_vars(list: &mut Vmtf<'_>, vars: &[u32], stamps: &mut [u64], order: &mut [u32])
+    requires safe { Safe (length list.old.next.now) (vmtf_in list.old) }
+    requires group { Group vars.now list.old.ts.now stamps.old order.old }
+    ensures moved { vmtf_in list.new ≡ spec.bump_vec_of_vars vars.now (vmtf_in list.old) }
+    ensures same_slices { SameSlices list.old list.new }
+    ensures zeros { let zeros : List ℕ = replicate (length vars.now) 0 in
         (stamps.new ≡ zeros) × (order.new ≡ zeros) }
 {
-    group_order(ts, vars, stamps, order);
-    let r = move_all(next, prev, ts, s, order);
-    clear(stamps);
-    fill(order, 0);
-    r
+    group_order(list, vars, stamps, order);
+    move_all(list, order);
+    stamps.fill(0);
+    order.fill(0);
 }

@@ -5,7 +5,7 @@ use Rattle.std.proofs.Math.Option.{none}
 use Rattle.lit.specs.Numbers.{NONE, max_vars, many_vars, bad_length, bad_clauses, bad_state}
 use Rattle.choosers.specs.Heap.{heap_ops}
 use Rattle.choosers.specs.List.{list_ops}
-use Rattle.book.specs.Session.{Result, done, refuse, status, reply, need, Session}
+use Rattle.book.specs.Session.{Result, done, refuse, reply, need, Session}
 use Rattle.book.specs.Mapped.{mapped_reply}
 use Rattle.session.specs.Entry.{sizes_checked, checked, Answered}
 use Rattle.session.proofs.Checks.{size_zero, size_accepted}

@@ -7,10 +7,7 @@ ghost use Rattle.heap_entry.specs.Entry.{made};
 ghost use Rattle.heap_calls.specs.Lists.{entered_words};
 ghost use Rattle.native.specs.Small.{heap_state};
 
-use activity::Step;
-use heap_session::HeapState;
-use trail::TrailState;
-use vsids::VsidsState;
+use crate::small::HeapNumbers;
 
 // A fresh session in heap mode in memory that a host lends. Refused, nothing changes.
 pub fn sigvort_heap_fresh(
@@ -43,24 +40,22 @@ pub fn sigvort_heap_fresh(
         activity.new heap.new indices.new decision.new (heap_state len.new level.new curr_i.new members.new inc.new decay.new) in
         Answered (made n clauses lits.now literals ends.now before) before result number.NONE after }
 {
+    let mut numbers = HeapNumbers {
+        len,
+        level,
+        curr_i,
+        members,
+        inc,
+        decay,
+    };
     let a = heap_entry::creation::fresh(
         n, literals, clauses, lits, ends, values, levels, reasons, trail, opened, activity, heap,
         indices, decision,
     );
-    if a.status != 0 {
-        return a.status;
+    if a.status == 0 {
+        numbers.set(a.state);
     }
-    let s = a.state;
-    let t = s.trail;
-    let h = s.vsids;
-    let step = h.step;
-    *len = t.len;
-    *level = t.level;
-    *curr_i = t.curr_i;
-    *members = h.len;
-    *inc = step.inc;
-    *decay = step.decay;
-    0
+    a.status
 }
 
 // A list of calls in heap mode on memory that a host lends. Refused, nothing changes.
@@ -99,6 +94,14 @@ pub fn sigvort_heap_calls(
         let wanted = entered_words n clauses lits.now literals ends.now vars.now calls.now (length out) before in
         Answered wanted (before, out) result number.NONE (after, answers.new) }
 {
+    let mut numbers = HeapNumbers {
+        len,
+        level,
+        curr_i,
+        members,
+        inc,
+        decay,
+    };
     let a = heap_calls::enter(
         n,
         literals,
@@ -114,36 +117,13 @@ pub fn sigvort_heap_calls(
         heap,
         indices,
         decision,
-        HeapState {
-            trail: TrailState {
-                len: *len,
-                level: *level,
-                curr_i: *curr_i,
-            },
-            vsids: VsidsState {
-                len: *members,
-                step: Step {
-                    inc: *inc,
-                    decay: *decay,
-                },
-            },
-        },
+        numbers.state(),
         vars,
         calls,
         answers,
     );
-    if a.status != 0 {
-        return a.status;
+    if a.status == 0 {
+        numbers.set(a.state);
     }
-    let s = a.state;
-    let t = s.trail;
-    let h = s.vsids;
-    let step = h.step;
-    *len = t.len;
-    *level = t.level;
-    *curr_i = t.curr_i;
-    *members = h.len;
-    *inc = step.inc;
-    *decay = step.decay;
-    0
+    a.status
 }

@@ -3,3 +3,4 @@
 
 pub mod heap_mode;
 pub mod list_mode;
+pub mod small;

@@ -7,9 +7,7 @@ ghost use Rattle.list_entry.specs.Entry.{made_unaided};
 ghost use Rattle.list_calls.specs.Lists.{entered_words};
 ghost use Rattle.native.specs.Small.{list_state};
 
-use list_session::ListState;
-use trail::TrailState;
-use vmtf::VmtfState;
+use crate::small::ListNumbers;
 
 // A fresh session in list mode in memory that a host lends. Refused, nothing changes.
 pub fn sigvort_list_fresh(
@@ -41,22 +39,21 @@ pub fn sigvort_list_fresh(
         next.new prev.new ts.new (list_state len.new level.new curr_i.new start.new search.new timestamp.new) in
         Answered (made_unaided n clauses lits.now literals ends.now before) before result number.NONE after }
 {
+    let mut numbers = ListNumbers {
+        len,
+        level,
+        curr_i,
+        start,
+        search,
+        timestamp,
+    };
     let a = list_entry::creation::fresh_unaided(
         n, literals, clauses, lits, ends, values, levels, reasons, trail, opened, next, prev, ts,
     );
-    if a.status != 0 {
-        return a.status;
+    if a.status == 0 {
+        numbers.set(a.state);
     }
-    let s = a.state;
-    let t = s.trail;
-    let l = s.vmtf;
-    *len = t.len;
-    *level = t.level;
-    *curr_i = t.curr_i;
-    *start = l.start;
-    *search = l.search;
-    *timestamp = l.timestamp;
-    0
+    a.status
 }
 
 // A list of calls in list mode on memory that a host lends. Refused, nothing changes.
@@ -94,6 +91,14 @@ pub fn sigvort_list_calls(
         let wanted = entered_words n clauses lits.now literals ends.now vars.now calls.now (length out) before in
         Answered wanted (before, out) result number.NONE (after, answers.new) }
 {
+    let mut numbers = ListNumbers {
+        len,
+        level,
+        curr_i,
+        start,
+        search,
+        timestamp,
+    };
     let a = list_calls::enter(
         n,
         literals,
@@ -108,33 +113,13 @@ pub fn sigvort_list_calls(
         next,
         prev,
         ts,
-        ListState {
-            trail: TrailState {
-                len: *len,
-                level: *level,
-                curr_i: *curr_i,
-            },
-            vmtf: VmtfState {
-                start: *start,
-                search: *search,
-                timestamp: *timestamp,
-            },
-        },
+        numbers.state(),
         vars,
         calls,
         answers,
     );
-    if a.status != 0 {
-        return a.status;
+    if a.status == 0 {
+        numbers.set(a.state);
     }
-    let s = a.state;
-    let t = s.trail;
-    let l = s.vmtf;
-    *len = t.len;
-    *level = t.level;
-    *curr_i = t.curr_i;
-    *start = l.start;
-    *search = l.search;
-    *timestamp = l.timestamp;
-    0
+    a.status
 }

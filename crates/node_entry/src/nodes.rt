@@ -1,6 +1,6 @@
-// The move-to-front list as a lent slice of node records, from decision.rs: a node read and written, and the fields of all out into flat slices, and back.
-ghost use Rattle.std.specs.Prelude.{◌≡◌, ◌<◌, ◌++◌, length, get_or, set, take, drop};
-ghost use Rattle.node_entry.specs.Nodes.{nexts, prevs, tss, no_node, FlatRoom, room_for};
+// The move-to-front list as a lent slice of node records, from decision.rs: the fields of all out into flat slices, and back.
+ghost use Rattle.std.specs.Prelude.{◌≡◌, ◌++◌, length, take, drop};
+ghost use Rattle.node_entry.specs.Nodes.{nexts, prevs, tss, FlatRoom, room_for};
 
 use lit::MAX_VARS;
 
@@ -19,26 +19,7 @@ pub const ROOM: usize = MAX_VARS as usize + 1;
 pub fn room_for(len: usize) -> usize
     ensures { result ≡ room_for len }
 {
-    if len < ROOM {
-        return len;
-    }
-    ROOM
-}
-
-// Reads a node.
-pub fn node_at(nodes: &[Node], i: usize) -> Node
-    requires { i < length nodes.now }
-    ensures { result ≡ get_or nodes.now i no_node }
-{
-    nodes[i]
-}
-
-// Writes a node; the others stay.
-pub fn set_node(nodes: &mut [Node], i: usize, n: Node)
-    requires { i < length nodes.old }
-    ensures { nodes.new ≡ set nodes.old i n }
-{
-    nodes[i] = n;
+    len.min(ROOM)
 }
 
 // Reads the fields of the first nodes, each into a slice of its own.
@@ -48,13 +29,12 @@ pub fn gather(nodes: &[Node], next: &mut [u32], prev: &mut [u32], ts: &mut [u64]
         let k = length next.old in
         (next.new ≡ take k (nexts all)) × (prev.new ≡ take k (prevs all)) × (ts.new ≡ take k (tss all)) }
 {
-    let mut i: usize = 0;
-    while i < next.len() {
-        let n = node_at(nodes, i);
+    // four slices at one index: zips of four are no plainer
+    for i in 0..next.len() {
+        let n = nodes[i];
         next[i] = n.next;
         prev[i] = n.prev;
         ts[i] = n.ts;
-        i += 1;
     }
 }
 
@@ -66,14 +46,12 @@ pub fn scatter(nodes: &mut [Node], next: &[u32], prev: &[u32], ts: &[u64])
         let k = length next.now in
         (nexts after ≡ next.now ++ drop k (nexts before)) × (prevs after ≡ prev.now ++ drop k (prevs before)) × (tss after ≡ ts.now ++ drop k (tss before)) }
 {
-    let mut i: usize = 0;
-    while i < next.len() {
-        let n = Node {
+    // four slices at one index: zips of four are no plainer
+    for i in 0..next.len() {
+        nodes[i] = Node {
             next: next[i],
             prev: prev[i],
             ts: ts[i],
         };
-        set_node(nodes, i, n);
-        i += 1;
     }
 }

@@ -1,6 +1,7 @@
 // Saved sessions over nodes: those of list mode with the list as a lent slice of nodes. The entry points ask nothing of their callers.
 #![tactic(auto)]
 
+ghost use Rattle.lit.specs.Refusals.{status_of};
 ghost use Rattle.session.specs.Entry.{Answered};
 ghost use Rattle.list_session.specs.Memory.{session_of};
 ghost use Rattle.list_entry.specs.Entry.{list_mode, blank};
@@ -10,8 +11,8 @@ ghost use Rattle.saved_state.specs.Entry as entry;
 ghost use Rattle.list_saved.specs.Reader.{list_reader, memory_of};
 
 use list_session::{ListAnswer, ListState};
+use lit::Refusal;
 use node_entry::nodes::{Node, ROOM, gather, room_for, scatter};
-use saved_state::TextAnswer;
 
 // Writes the text of a session that was lent, from the buffer's front on, and gives its length.
 pub fn save(
@@ -28,11 +29,11 @@ pub fn save(
     nodes: &[Node],
     s: ListState,
     text: &mut [u8],
-) -> TextAnswer
+) -> Result<u32, Refusal>
     ensures { let before = session_of n clauses lits.now values.now levels.now reasons.now trail.now opened.now (nexts nodes.now) (prevs nodes.now) (tss nodes.now) s in
         let mode = list_mode n clauses lits.now in
         let wanted = entry.wrote n clauses mode lits.now literals ends.now (λ u. saved_list n lits.now ends.now u.trail u.chooser) before text.old in
-        Answered wanted text.old result.status result.reply text.new }
+        Answered wanted text.old (status_of result) (entry.count_of result) text.new }
 {
     let k = room_for(nodes.len());
     let mut next = [0u32; ROOM];

@@ -1,24 +1,24 @@
 // Each refusal, tried once: 4 to 14 at the entry points, in each mode where they can come, each on a small memory of its own. A line for each: a
-// letter (h and l for calls in heap and list mode, n and m for creation), the refusal that is due, the status and the reply.
+// letter (h and l for calls in heap and list mode, n and m for creation), the number of the refusal that is due, or 0, the status and the reply.
 #![tactic(auto)]
 
 use activity::Step;
 use heap_session::HeapState;
 use list_session::ListState;
-use lit::{NONE, ON};
+use lit::{NONE, ON, Refusal};
 use session::Call;
 use std::io;
 use trail::TrailState;
 use vmtf::VmtfState;
 use vsids::VsidsState;
 
-// What is lent for a call: the number of variables and of literals as stated, whether a group's variables are left out beside its scratch,
+// What is lent for a call: the number of variables and of literals as stated, the variable of a group, whose scratch has one place, or none,
 // the second literal's code, the second variable's value and switch, the list's search and the heap's step.
 #[derive(Clone, Copy)]
 pub struct Lent {
     pub vars: u32,
     pub literals: u32,
-    pub empty: bool,
+    pub group: Option<u32>,
     pub code: u32,
     pub value: u8,
     pub switch: u8,
@@ -31,7 +31,7 @@ fn good() -> Lent {
     Lent {
         vars: 2,
         literals: 2,
-        empty: false,
+        group: Some(1),
         code: 3,
         value: 2,
         switch: ON,
@@ -49,21 +49,20 @@ fn one_on_trail() -> TrailState {
     }
 }
 
-// A group's variables, or none of them.
-fn group_of<'a>(vars: &'a [u32], empty: bool) -> &'a [u32] {
-    if empty {
-        return &vars[0..0];
-    }
-    vars
-}
-
 // Prints a line.
-fn show(rt: &impl Print, mode: char, due: u32, status: u32, reply: u32) -> io::Result<()> {
-    println!(rt; "{mode}\t{due}\t{status}\t{reply}")
+fn show(
+    rt: &impl Print,
+    mode: char,
+    due: Option<Refusal>,
+    status: u32,
+    reply: u32,
+) -> io::Result<()> {
+    let number = due.map_or(0, Refusal::number);
+    println!(rt; "{mode}\t{number}\t{status}\t{reply}")
 }
 
 // Creation in list mode.
-fn make_list(rt: &impl Print, due: u32, lent: Lent) -> io::Result<()> {
+fn make_list(rt: &impl Print, due: Option<Refusal>, lent: Lent) -> io::Result<()> {
     let lits = [1, lent.code];
     let ends = [2];
     let mut values = [2u8; 2];
@@ -97,7 +96,7 @@ fn make_list(rt: &impl Print, due: u32, lent: Lent) -> io::Result<()> {
 }
 
 // Creation in heap mode.
-fn make_heap(rt: &impl Print, due: u32, lent: Lent) -> io::Result<()> {
+fn make_heap(rt: &impl Print, due: Option<Refusal>, lent: Lent) -> io::Result<()> {
     let lits = [1, lent.code];
     let ends = [2];
     let mut values = [2u8; 2];
@@ -129,7 +128,7 @@ fn make_heap(rt: &impl Print, due: u32, lent: Lent) -> io::Result<()> {
 }
 
 // A call in list mode.
-fn try_list(rt: &impl Print, due: u32, lent: Lent, call: Call) -> io::Result<()> {
+fn try_list(rt: &impl Print, due: Option<Refusal>, lent: Lent, call: Call) -> io::Result<()> {
     let lits = [1, lent.code];
     let ends = [2];
     let mut values = [1, lent.value];
@@ -140,10 +139,8 @@ fn try_list(rt: &impl Print, due: u32, lent: Lent, call: Call) -> io::Result<()>
     let mut next = [1, NONE];
     let mut prev = [NONE, 0];
     let mut ts = [2, 1];
-    let vars = [1u32; 1];
     let mut stamps = [0u64; 1];
     let mut order = [0u32; 1];
-    let group = group_of(&vars, lent.empty);
     let s = ListState {
         trail: one_on_trail(),
         vmtf: VmtfState {
@@ -168,7 +165,7 @@ fn try_list(rt: &impl Print, due: u32, lent: Lent, call: Call) -> io::Result<()>
         &mut ts,
         s,
         call,
-        group,
+        lent.group.as_slice(),
         &mut stamps,
         &mut order,
     );
@@ -176,7 +173,7 @@ fn try_list(rt: &impl Print, due: u32, lent: Lent, call: Call) -> io::Result<()>
 }
 
 // A call in heap mode.
-fn try_heap(rt: &impl Print, due: u32, lent: Lent, call: Call) -> io::Result<()> {
+fn try_heap(rt: &impl Print, due: Option<Refusal>, lent: Lent, call: Call) -> io::Result<()> {
     let lits = [1, lent.code];
     let ends = [2];
     let mut values = [1, lent.value];
@@ -188,10 +185,8 @@ fn try_heap(rt: &impl Print, due: u32, lent: Lent, call: Call) -> io::Result<()>
     let mut heap = [0, 1];
     let mut indices = [0, 1];
     let mut decision = [ON, lent.switch];
-    let vars = [1u32; 1];
     let stamps = [0u64; 1];
     let order = [0u32; 1];
-    let group = group_of(&vars, lent.empty);
     let s = HeapState {
         trail: one_on_trail(),
         vsids: VsidsState {
@@ -219,7 +214,7 @@ fn try_heap(rt: &impl Print, due: u32, lent: Lent, call: Call) -> io::Result<()>
         &mut decision,
         s,
         call,
-        group,
+        lent.group.as_slice(),
         &stamps,
         &order,
     );
@@ -227,71 +222,86 @@ fn try_heap(rt: &impl Print, due: u32, lent: Lent, call: Call) -> io::Result<()>
 }
 
 // In both modes.
-fn try_both(rt: &impl Print, due: u32, lent: Lent, call: Call) -> io::Result<()> {
+fn try_both(rt: &impl Print, due: Option<Refusal>, lent: Lent, call: Call) -> io::Result<()> {
     try_heap(rt, due, lent, call)?;
     try_list(rt, due, lent, call)
 }
 
 // Creation in both modes.
-fn make_both(rt: &impl Print, due: u32, lent: Lent) -> io::Result<()> {
+fn make_both(rt: &impl Print, due: Option<Refusal>, lent: Lent) -> io::Result<()> {
     make_heap(rt, due, lent)?;
     make_list(rt, due, lent)
 }
 
 // The memory that was lent: sizes, clauses and state, the first that fits.
 fn try_memory(rt: &impl Print) -> io::Result<()> {
-    let mut many = good();
-    many.vars = 2049;
-    make_both(rt, 4, many)?;
-    try_both(rt, 4, many, Call::Decay)?;
-    let mut three = good();
-    three.vars = 3;
-    three.code = 6;
-    make_both(rt, 5, three)?;
-    try_both(rt, 5, three, Call::Decay)?;
-    let mut stated = good();
-    stated.literals = 3;
-    make_both(rt, 5, stated)?;
-    try_both(rt, 5, stated, Call::Decay)?;
-    let mut scratch = good();
-    scratch.empty = true;
-    try_both(rt, 5, scratch, Call::Group)?;
-    try_both(rt, 0, scratch, Call::Decay)?;
-    let mut foreign = good();
-    foreign.code = 4;
-    foreign.value = 3;
-    make_both(rt, 6, foreign)?;
-    try_both(rt, 6, foreign, Call::Decay)?;
-    let mut value = good();
-    value.value = 3;
-    make_both(rt, 0, value)?;
-    try_both(rt, 7, value, Call::Bump(2))?;
-    let mut byte = good();
-    byte.switch = 2;
-    try_heap(rt, 7, byte, Call::Decay)
+    let many = Lent {
+        vars: 2049,
+        ..good()
+    };
+    make_both(rt, Some(Refusal::ManyVars), many)?;
+    try_both(rt, Some(Refusal::ManyVars), many, Call::Decay)?;
+    let three = Lent {
+        vars: 3,
+        code: 6,
+        ..good()
+    };
+    make_both(rt, Some(Refusal::BadLength), three)?;
+    try_both(rt, Some(Refusal::BadLength), three, Call::Decay)?;
+    let stated = Lent {
+        literals: 3,
+        ..good()
+    };
+    make_both(rt, Some(Refusal::BadLength), stated)?;
+    try_both(rt, Some(Refusal::BadLength), stated, Call::Decay)?;
+    let scratch = Lent {
+        group: None,
+        ..good()
+    };
+    try_both(rt, Some(Refusal::BadLength), scratch, Call::Group)?;
+    try_both(rt, None, scratch, Call::Decay)?;
+    let foreign = Lent {
+        code: 4,
+        value: 3,
+        ..good()
+    };
+    make_both(rt, Some(Refusal::BadClauses), foreign)?;
+    try_both(rt, Some(Refusal::BadClauses), foreign, Call::Decay)?;
+    let value = Lent { value: 3, ..good() };
+    make_both(rt, None, value)?;
+    try_both(rt, Some(Refusal::BadState), value, Call::Bump(2))?;
+    let byte = Lent {
+        switch: 2,
+        ..good()
+    };
+    try_heap(rt, Some(Refusal::BadState), byte, Call::Decay)
 }
 
 // The arguments of calls.
 fn try_arguments(rt: &impl Print) -> io::Result<()> {
-    try_both(rt, 8, good(), Call::Bump(2))?;
-    try_both(rt, 8, good(), Call::Enqueue(4, 1))?;
-    try_both(rt, 9, good(), Call::Decide(2))?;
-    try_both(rt, 10, good(), Call::Enqueue(1, 1))?;
-    try_both(rt, 11, good(), Call::Enqueue(0, 0))?;
-    try_both(rt, 11, good(), Call::LearnUnit(0))?;
-    try_both(rt, 12, good(), Call::SetDecay(0.25))
+    try_both(rt, Some(Refusal::NoVariable), good(), Call::Bump(2))?;
+    try_both(rt, Some(Refusal::NoVariable), good(), Call::Enqueue(4, 1))?;
+    try_both(rt, Some(Refusal::BadPolarity), good(), Call::Decide(2))?;
+    try_both(rt, Some(Refusal::BadReason), good(), Call::Enqueue(1, 1))?;
+    try_both(rt, Some(Refusal::Assigned), good(), Call::Enqueue(0, 0))?;
+    try_both(rt, Some(Refusal::Assigned), good(), Call::LearnUnit(0))?;
+    try_both(rt, Some(Refusal::BadDecay), good(), Call::SetDecay(0.25))
 }
 
 fn main(rt: HostRuntime) -> io::Result<()> {
     try_memory(&rt)?;
     try_arguments(&rt)?;
-    let mut large = good();
-    large.inc = 1e200;
-    try_heap(&rt, 13, large, Call::Decay)?;
-    try_list(&rt, 0, large, Call::Decay)?;
-    let mut past = good();
-    past.search = NONE;
-    try_list(&rt, 14, past, Call::Decide(1))?;
-    try_both(&rt, 0, good(), Call::Decide(1))?;
-    try_both(&rt, 0, good(), Call::Group)
+    let large = Lent {
+        inc: 1e200,
+        ..good()
+    };
+    try_heap(&rt, Some(Refusal::LargeStep), large, Call::Decay)?;
+    try_list(&rt, None, large, Call::Decay)?;
+    let past = Lent {
+        search: NONE,
+        ..good()
+    };
+    try_list(&rt, Some(Refusal::PastOpen), past, Call::Decide(1))?;
+    try_both(&rt, None, good(), Call::Decide(1))?;
+    try_both(&rt, None, good(), Call::Group)
 }

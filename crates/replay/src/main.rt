@@ -16,18 +16,14 @@ fn one(rt: &impl Print, sheet: &[u8]) -> io::Result<()> {
 
 // Runs one sheet after the other.
 fn all(rt: &impl Print, sheets: &[u8]) -> io::Result<()> {
-    let mut from = 0;
-    while from < sheets.len() {
-        let end = from + forms::text::find(&sheets[from..], 0);
-        one(rt, &sheets[from..end])?;
-        from = end + 1;
+    for sheet in sheets.split_inclusive(|b| *b == 0) {
+        one(rt, sheet.strip_suffix(b"\0").unwrap_or(sheet))?;
     }
     Ok(())
 }
 
 fn main(rt: HostRuntime) -> io::Result<()> {
     let mut sheets = [0u8; 65536];
-    let mut n = 0;
-    input::read_all(&mut rt.stdin(), &mut sheets, &mut n)?;
+    let n = input::read_all(&mut rt.stdin(), &mut sheets)?;
     all(&rt, &sheets[..n])
 }

@@ -1,5 +1,5 @@
 -- Answers and texts of runs are short: at most 24 bytes for each line of a sheet, and the text's bound, so that 32 bits count them.
-use Prim.Native.Nat.{ℕ, ◌*◌, ◌≤◌}
+use Prim.Native.Nat.{ℕ, ◌*◌, ◌≤◌, ◌<◌}
 use mathlib.Core.Path.{◌≡◌, refl}
 use mathlib.Core.Bool.{Bool, true, false}
 use mathlib.Core.Option.{Option, none, some}
@@ -9,6 +9,9 @@ use borrow.Author.Tests.{leb-true}
 use lib.Dec.{leb}
 use lib.ListN.{length}
 use Rattle.laws.specs.Tests.{true_or_false}
+use Rattle.lit.specs.declared.Refusal.{Refusal}
+use Rattle.lit.specs.declared.Refusal.TheVariants.{LongSheet, ShortBuffer, BadLine, ManyVars, BadLength, BadClauses, BadState, NoVariable, BadPolarity, BadReason, Assigned, BadDecay, LargeStep, PastOpen, BadSaved}
+use Rattle.lit.specs.Refusals.{refusal_number}
 use Rattle.lit.specs.Numbers.{NONE, max_sheet, answer_room, long_sheet, short_buffer}
 use Rattle.book.specs.Session.{Result, done, refuse, need, Session}
 use Rattle.book.specs.Read.{calls_of}
@@ -57,3 +60,21 @@ on_small old sheet room space = go (leb (length sheet) max_sheet) refl (leb (ans
         let ls = lines sheet in
         with_small space (answers_held h 1 (map call_in ls)) (after_calls h (map call_in ls)) (omega (arith, session_short h.mode h.vars h.list h.run.now ls few, few))
         (good_run h.mode h.vars h.list h.run (calls_of (map call_in ls)) (lines_double ls) (read_good old r h q).0)
+
+-- and a refusal has two digits at most
+pub refusal_small : (e : Refusal) → refusal_number e < 100
+refusal_small LongSheet = omega arith
+refusal_small ShortBuffer = omega arith
+refusal_small BadLine = omega arith
+refusal_small ManyVars = omega arith
+refusal_small BadLength = omega arith
+refusal_small BadClauses = omega arith
+refusal_small BadState = omega arith
+refusal_small NoVariable = omega arith
+refusal_small BadPolarity = omega arith
+refusal_small BadReason = omega arith
+refusal_small Assigned = omega arith
+refusal_small BadDecay = omega arith
+refusal_small LargeStep = omega arith
+refusal_small PastOpen = omega arith
+refusal_small BadSaved = omega arith

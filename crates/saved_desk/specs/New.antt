@@ -1,18 +1,21 @@
 -- A sheet whose session is saved at its end, as code runs it: the room for the text, judged by the clause lines, then the answers and the text. Assumes nothing.
-use Rattle.std.specs.Prelude.{ℕ, ◌+◌, ◌≤◌, ◌<◌, ◌≡◌, Bool, true, false, List, [], ◌++◌, leb, length, take}
+use Rattle.std.specs.Prelude.{ℕ, ◌+◌, ◌≤◌, ◌<◌, ◌≡◌, Bool, true, false, List, [], ◌++◌, leb, length, take, Ok, Err}
 use Rattle.std.proofs.Math.Path.{refl}
 use Rattle.std.proofs.Common.{sym, ap, subst, ◌∙◌, arith, le-leb}
 use Rattle.std.proofs.Math.Option.{none, some}
 use Rattle.std.proofs.lemmas.Bool.{lt-leb}
-use Rattle.lit.specs.Numbers.{max_vars, max_clauses, max_literals, many_vars, short_buffer}
+use Rattle.lit.specs.declared.Refusal.TheVariants.{ShortBuffer}
+use Rattle.lit.specs.Numbers.{max_vars, max_clauses, max_literals, many_vars}
 use Rattle.book.specs.Session.{Result, done, need}
 use Rattle.forms.specs.Text.{newline, lines, occurs, written}
 use Rattle.forms.specs.TextLaws.{lines_end}
-use Rattle.forms.specs.declared.First as code
+use Rattle.std.specs.Prelude as code
+use Rattle.forms.specs.declared.Opening as opens
+use Rattle.forms.specs.declared.Mode as mode
 use Rattle.forms.specs.Forms.{Mode, vsids, Opening, first_in}
 use Rattle.forms.specs.Read.{first_of}
 use Rattle.forms.specs.Written.{Wrote, put_more}
-use Rattle.saved_text.specs.Puts.{Puts}
+use Rattle.forms.specs.Written.{Wrote}
 use Rattle.sheet.specs.declared.Place.{Place}
 use Rattle.sheet.specs.declared.clauses.Section.{Section}
 use Rattle.sheet.specs.Sheet.{answer_line, ClauseList, clause_lines, listed, opening, answered}
@@ -24,7 +27,6 @@ use Rattle.sheet.specs.Opening.{mode_of, opening_at, opening_of, at_first}
 use Rattle.sheet.proofs.Opening.{first_told, first_lines, first_answers, no_clauses}
 use Rattle.saved_sheet.specs.Sheets.{text_held, text_room, with_text, held_behind, held_first, held_by, with_text_of}
 use Rattle.saved_run.specs.declared.Both.{Both}
-use Rattle.saved_run.specs.declared.Outcome.TheVariants as outcome
 use Rattle.saved_run.specs.Outcomes.{Comes}
 use Rattle.saved_run.specs.Ends.{stage_text, Saves}
 use Rattle.saved_run.specs.Behind.{text_behind, text_over, list_over}
@@ -69,7 +71,7 @@ pub session_saves : (mode : Mode) {n : ℕ} {sheet lits ends out text out' text'
     → Saves sheet p (opened mode n lits ends) out text b out' text' → Saves sheet p (reading mode n lits ends) out text b out' text'
 session_saves mode {n} {sheet} {lits} {ends} {text = text} {text' = text'} {p = p} {b = b} over x = record {
   answers = session_ended mode over x.answers;
-  saved = subst (λ (t : List ℕ). Puts true 0 t text text' b.text) (sym (text_over mode n lits ends (lines_from sheet p.from) over)) x.saved;
+  saved = subst (λ (t : List ℕ). Wrote 0 t text text' b.text) (sym (text_over mode n lits ends (lines_from sheet p.from) over)) x.saved;
 }
 
 -- the clause lines answered, it saves it from the first of them on
@@ -78,42 +80,42 @@ pub section_saves : (mode : Mode) {n : ℕ} {sheet out lits ends out' lits' ends
     → Saves sheet s.place (stage_of mode n lits ends s) out text b out'' text'
 section_saves mode {text = text} {text' = text'} {b = b} so over x = record {
   answers = section_ended mode so over x.answers;
-  saved = subst (λ (t : List ℕ). Puts true 0 t text text' b.text) (ap stage_text (so.end mode).stage) (session_saves mode over x).saved;
+  saved = subst (λ (t : List ℕ). Wrote 0 t text text' b.text) (ap stage_text (so.end mode).stage) (session_saves mode over x).saved;
 }
 
-module _ (heap : Bool) (n : ℕ) (ls : List (List ℕ)) (out text : List ℕ) where
+module _ (m : mode.Mode) (n : ℕ) (ls : List (List ℕ)) (out text : List ℕ) where
   -- 2, and nothing is written
-  pub new_short : leb (room_behind n ls) (length text) ≡ false → Comes (new_behind (length text) (opening_at heap n) ls) out text (outcome.Refused short_buffer) out text
+  pub new_short : leb (room_behind n ls) (length text) ≡ false → Comes (new_behind (length text) (opening_at m n) ls) out text (Err ShortBuffer) out text
   unfolding need
-  new_short few = rw few (refl, refl, refl)
+  new_short few = rw few (ShortBuffer, refl, refl, refl, refl)
 
 -- or the answers and the text
-pub new_saved : (heap : Bool) (n count end : ℕ) {sheet out out' out'' text text' : List ℕ} {at : ℕ} {b : Both} → room_behind n (lines_from sheet (end + 1)) ≤ length text → Wrote 0 (answer_line 1 0 none) out out' at
-    → Saves sheet (after (at_first count) end at) (reading (mode_of heap) n [] []) out' text b out'' text'
-    → Comes (new_behind (length text) (opening_at heap n) (lines_from sheet (end + 1))) out text (outcome.Written b) out'' text'
+pub new_saved : (m : mode.Mode) (n count end : ℕ) {sheet out out' out'' text text' : List ℕ} {at : ℕ} {b : Both} → room_behind n (lines_from sheet (end + 1)) ≤ length text → Wrote 0 (answer_line 1 0 none) out out' at
+    → Saves sheet (after (at_first count) end at) (reading (mode_of m) n [] []) out' text b out'' text'
+    → Comes (new_behind (length text) (opening_at m n) (lines_from sheet (end + 1))) out text (Ok b) out'' text'
 unfolding need
-new_saved heap n count end {sheet} {out} {out'' = out''} {text = text} {b = b} room w s =
+new_saved m n count end {sheet} {out} {out'' = out''} {text = text} {b = b} room w s =
     let ls = lines_from sheet (end + 1) in
-    let a : Wrote 0 (answer_line 1 0 none ++ answers 2 (reading (mode_of heap) n [] []) ls) out out'' b.answers = put_more w (record { buffer = s.answers.buffer; place = s.answers.count }) in
-    let t = text_behind (opening_at heap n) ls in
-    let first : b.answers ≡ length (answer_line 1 0 none ++ answers 2 (reading (mode_of heap) n [] []) ls) = omega (arith, a.place) in
-    let second : b.text ≡ length (text_held (held_behind (opening_at heap n) ls)) = omega (arith, s.saved.place, ap length t) in
-    rw (le-leb (room_behind n ls) (length text) room) (ap outcome.Written (λ i. record { answers = first i; text = second i }), a.buffer, s.saved.buffer ∙ ap (λ (x : List ℕ). written 0 x text) t)
+    let a : Wrote 0 (answer_line 1 0 none ++ answers 2 (reading (mode_of m) n [] []) ls) out out'' b.answers = put_more w (record { buffer = s.answers.buffer; place = s.answers.count }) in
+    let t = text_behind (opening_at m n) ls in
+    let first : b.answers ≡ length (answer_line 1 0 none ++ answers 2 (reading (mode_of m) n [] []) ls) = omega (arith, a.place) in
+    let second : b.text ≡ length (text_held (held_behind (opening_at m n) ls)) = omega (arith, s.saved.place, ap length t) in
+    rw (le-leb (room_behind n ls) (length text) room) (ap Ok (λ i. record { answers = first i; text = second i }), a.buffer, s.saved.buffer ∙ ap (λ (x : List ℕ). written 0 x text) t)
 
 -- ---- the first line
 
 -- 4 alone, or the session with the lines behind it
-module _ (heap : Bool) (n space : ℕ) (ls : List (List ℕ)) where
-  pub first_many : max_vars < n → new_first space (opening (some (opening_at heap n))) ls ≡ done none (answer_line 1 many_vars none, [])
+module _ (m : mode.Mode) (n space : ℕ) (ls : List (List ℕ)) where
+  pub first_many : max_vars < n → new_first space (opening (some (opening_at m n))) ls ≡ done none (answer_line 1 many_vars none, [])
   unfolding need
   first_many many = rw (lt-leb n max_vars many) refl
 
-  pub first_few : n ≤ max_vars → new_first space (opening (some (opening_at heap n))) ls ≡ new_behind space (opening_at heap n) ls
+  pub first_few : n ≤ max_vars → new_first space (opening (some (opening_at m n))) ls ≡ new_behind space (opening_at m n) ls
   unfolding need
   first_few few = rw (le-leb n max_vars few) refl
 
 -- the sheet comes to what was read of its first line
-pub first_read : {sheet out : List ℕ} {count end : ℕ} {x : code.First} (space : ℕ) → Room sheet (at_first count) out → 0 < count → end ≡ line_length sheet 0 → x ≡ first_of (first_in (take end sheet))
+pub first_read : {sheet out : List ℕ} {count end : ℕ} {x : code.Option opens.Opening} (space : ℕ) → Room sheet (at_first count) out → 0 < count → end ≡ line_length sheet 0 → x ≡ first_of (first_in (take end sheet))
     → with_text_of space (answered (lines sheet)) (held_by (lines sheet)) ≡ new_first space (opening (opening_of x)) (lines_from sheet (end + 1))
 unfolding held_by
 first_read {sheet} {end = end} space room more e h = rw (first_answers room more, first_lines room more, sym e, first_told (first_in (take end sheet)) h) refl

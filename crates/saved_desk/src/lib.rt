@@ -9,25 +9,25 @@ ghost use Rattle.saved_desk.specs.Outcomes.{Gives};
 use crate::carrying::on_text;
 use crate::opening::from_first;
 use forms::text::NEWLINE;
-use lit::{ANSWER_ROOM, LONG_SHEET, MAX_SHEET, NONE, SHORT_BUFFER};
-use saved_run::{Both, Outcome};
+use lit::{ANSWER_ROOM, MAX_SHEET, NONE, Refusal};
+use saved_run::Both;
 
 pub mod carrying;
 pub mod opening;
 
 // Runs a sheet, and writes the text of its session as it is at the end. Without a session there is no text.
-pub fn run_new(sheet: &[u8], answers: &mut [u8], text: &mut [u8]) -> Outcome
+pub fn run_new(sheet: &[u8], answers: &mut [u8], text: &mut [u8]) -> Result<Both, Refusal>
     ensures { let x = ran_new sheet.now (length answers.old) (length text.old) in Comes x answers.old text.old result answers.new text.new }
 {
     if sheet.len() > MAX_SHEET as usize {
-        return Outcome::Refused(LONG_SHEET);
+        return Err(Refusal::LongSheet);
     }
     let count = forms::text::occurs(sheet, NEWLINE);
     if answers.len() < ANSWER_ROOM as usize * count {
-        return Outcome::Refused(SHORT_BUFFER);
+        return Err(Refusal::ShortBuffer);
     }
     if count == 0 {
-        return Outcome::Written(Both {
+        return Ok(Both {
             answers: 0,
             text: 0,
         });
@@ -36,15 +36,20 @@ pub fn run_new(sheet: &[u8], answers: &mut [u8], text: &mut [u8]) -> Outcome
 }
 
 // Does the calls of a sheet on the session that a text says, and writes the text of the session that they leave.
-pub fn run_on(old: &[u8], sheet: &[u8], answers: &mut [u8], text: &mut [u8]) -> Outcome
+pub fn run_on(
+    old: &[u8],
+    sheet: &[u8],
+    answers: &mut [u8],
+    text: &mut [u8],
+) -> Result<Both, Refusal>
     ensures { let x = ran_on old.now sheet.now (length answers.old) (length text.old) in Comes x answers.old text.old result answers.new text.new }
 {
     if sheet.len() > MAX_SHEET as usize {
-        return Outcome::Refused(LONG_SHEET);
+        return Err(Refusal::LongSheet);
     }
     let count = forms::text::occurs(sheet, NEWLINE);
     if answers.len() < ANSWER_ROOM as usize * count {
-        return Outcome::Refused(SHORT_BUFFER);
+        return Err(Refusal::ShortBuffer);
     }
     on_text(old, sheet, answers, text, count as u32)
 }
@@ -55,11 +60,11 @@ pub fn sigvort_run_new(sheet: &[u8], answers: &mut [u8], text: &mut [u8], writte
 {
     let r = run_new(sheet, answers, text);
     match r {
-        Outcome::Written(b) => {
+        Ok(b) => {
             *written = b.text as u32;
             b.answers as u32
         }
-        Outcome::Refused(k) => NONE - k,
+        Err(e) => NONE - e.number(),
     }
 }
 
@@ -75,10 +80,10 @@ pub fn sigvort_run_on(
 {
     let r = run_on(old, sheet, answers, text);
     match r {
-        Outcome::Written(b) => {
+        Ok(b) => {
             *written = b.text as u32;
             b.answers as u32
         }
-        Outcome::Refused(k) => NONE - k,
+        Err(e) => NONE - e.number(),
     }
 }

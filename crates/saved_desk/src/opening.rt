@@ -1,7 +1,8 @@
 // A sheet whose session is saved at its end, from its first line on: room for the text is judged before anything is written.
-ghost use Rattle.std.specs.Prelude.{◌≡◌, false, List, [], ℕ, ◌+◌, ◌≤◌, ◌<◌, leb, length};
+ghost use Rattle.std.specs.Prelude.{◌≡◌, false, List, [], ℕ, ◌+◌, ◌*◌, ◌≤◌, ◌<◌, leb, length, Ok};
 ghost use Rattle.std.proofs.Math.Option.{none, some};
 ghost use Rattle.lit.specs.Numbers as number;
+ghost use Rattle.lit.specs.Refusals.{refusal_number};
 ghost use Rattle.formula.specs.Good.{GoodClauses};
 ghost use Rattle.book.specs.Session.{done};
 ghost use Rattle.forms.specs.Text as text-spec;
@@ -14,12 +15,13 @@ ghost use Rattle.saved_run.specs.Outcomes.{Comes};
 ghost use Rattle.saved_run.specs.Ends.{Saves};
 ghost use Rattle.saved_desk.specs.New.{room_behind, new_behind, new_first};
 
-use forms::First;
 use forms::text::NEWLINE;
+use forms::{Mode, Opening};
+use formula::Clauses;
 use heap_desk::fresh::heap_new;
 use list_desk::fresh::list_new;
-use lit::{BAD_LINE, MANY_VARS, MAX_CLAUSES, MAX_LITERALS, MAX_VARS, NONE, SHORT_BUFFER};
-use saved_run::{Both, Outcome};
+use lit::{MAX_VARS, Refusal};
+use saved_run::{ALL_CLAUSES, ALL_LITERALS, Both};
 use saved_state::saving::longest;
 use sheet::clauses::{Section, clause_lines, count_clauses, next_is_clause};
 use sheet::{Place, answer, behind};
@@ -29,19 +31,17 @@ fn session(
     sheet: &[u8],
     out: &mut [u8],
     text: &mut [u8],
-    heap: bool,
-    n: u32,
-    lits: &[u32],
-    ends: &[u32],
+    o: Opening,
+    list: Clauses<'_>,
     p: Place,
 ) -> Both
-    requires { Room sheet.now p out.old × (n ≤ number.max_vars) × GoodClauses n lits.now ends.now × (text_room n (length ends.now) (length lits.now) ≤ length text.old) }
-    ensures { Saves sheet.now p (opened (mode_of heap) n lits.now ends.now) out.old text.old result out.new text.new }
+    requires { Room sheet.now p out.old × (o.vars ≤ number.max_vars) × GoodClauses o.vars list.lits.now list.ends.now × (text_room o.vars (length list.ends.now) (length list.lits.now) ≤ length text.old) }
+    ensures { Saves sheet.now p (opened (mode_of o.mode) o.vars list.entry.lits.now list.entry.ends.now) out.old text.old result out.new text.new }
 {
-    if heap {
-        return heap_new(sheet, out, text, n, lits, ends, p);
+    match o.mode {
+        Mode::Heap => heap_new(sheet, out, text, o.vars, list, p),
+        Mode::List => list_new(sheet, out, text, o.vars, list, p),
     }
-    list_new(sheet, out, text, n, lits, ends, p)
 }
 
 // The place behind the first of so many lines, which ends at `end` and is answered up to `at`.
@@ -70,7 +70,7 @@ fn text_fits(
     requires { (n ≤ number.max_vars) × ((out : List ℕ) × Ready n sheet.now (record { place = p; literals = 0; clauses = 0 }) out lits.old ends.old) }
     ensures { result ≡ leb (room_behind n (lines_from sheet.now p.from)) space }
 {
-    if longest(n, MAX_CLAUSES as usize, MAX_LITERALS as usize) <= space {
+    if longest(n, ALL_CLAUSES, ALL_LITERALS) <= space {
         return true;
     }
     let s = count_clauses(
@@ -94,26 +94,25 @@ fn with_clauses(
     text: &mut [u8],
     count: u32,
     end: usize,
-    heap: bool,
-    n: u32,
+    o: Opening,
     lits: &mut [u32],
     ends: &mut [u32],
-) -> Outcome
-    requires room { Room sheet.now (at_first count) out.old × (0 < count) × (end ≡ line_length sheet.now 0) × (n ≤ number.max_vars) }
+) -> Result<Both, Refusal>
+    requires room { Room sheet.now (at_first count) out.old × (0 < count) × (end ≡ line_length sheet.now 0) × (o.vars ≤ number.max_vars) }
     requires holds { Holds sheet.now lits.old ends.old × (length lits.old ≤ number.max_literals) }
-    ensures { let x = new_behind (length text.old) (opening_at heap n) (lines_from sheet.now (end + 1)) in Comes x out.old text.old result out.new text.new }
+    ensures { let x = new_behind (length text.old) (opening_at o.mode o.vars) (lines_from sheet.now (end + 1)) in Comes x out.old text.old result out.new text.new }
 {
     let space = text.len();
     let unanswered = second(count, end, 0);
-    if !text_fits(sheet, n, lits, ends, unanswered, space) {
-        return Outcome::Refused(SHORT_BUFFER);
+    if !text_fits(sheet, o.vars, lits, ends, unanswered, space) {
+        return Err(Refusal::ShortBuffer);
     }
-    let at = answer(out, 0, 1, 0, NONE);
+    let at = answer(out, 0, 1, Ok(None));
     let p = second(count, end, at);
     let s = clause_lines(
         sheet,
         out,
-        n,
+        o.vars,
         lits,
         ends,
         Section {
@@ -122,60 +121,73 @@ fn with_clauses(
             clauses: 0,
         },
     );
-    let literals = s.literals as usize;
-    let clauses = s.clauses as usize;
-    let q = s.place;
-    let b = session(
-        sheet,
-        out,
-        text,
-        heap,
-        n,
-        &lits[..literals],
-        &ends[..clauses],
-        q,
-    );
-    Outcome::Written(b)
+    let list = Clauses {
+        lits: &lits[..s.literals as usize],
+        ends: &ends[..s.clauses as usize],
+    };
+    Ok(session(sheet, out, text, o, list, s.place))
 }
 
-// The same where no clause line comes next. The slices for clauses are not set up.
+// The same with room for so many literals and clauses.
+fn clauses_in<const LITERALS: usize, const CLAUSES: usize>(
+    sheet: &[u8],
+    out: &mut [u8],
+    text: &mut [u8],
+    count: u32,
+    end: usize,
+    o: Opening,
+) -> Result<Both, Refusal>
+    requires sizes { (LITERALS ≤ number.max_literals) × (CLAUSES ≤ number.max_clauses) }
+    requires room { Room sheet.now (at_first count) out.old × (0 < count) × (end ≡ line_length sheet.now 0) × (o.vars ≤ number.max_vars) }
+    requires literals { (k : ℕ) → k ≤ number.max_literals → 2 * k ≤ length sheet.now → k ≤ LITERALS }
+    requires clauses { (k : ℕ) → k ≤ number.max_clauses → 2 * k ≤ length sheet.now → k ≤ CLAUSES }
+    ensures { let x = new_behind (length text.old) (opening_at o.mode o.vars) (lines_from sheet.now (end + 1)) in Comes x out.old text.old result out.new text.new }
+{
+    let mut lits = [0u32; LITERALS];
+    let mut ends = [0u32; CLAUSES];
+    with_clauses(sheet, out, text, count, end, o, &mut lits, &mut ends)
+}
+
+// The lines behind an accepted first line where no clause line comes next. The slices for clauses are not set up.
 fn without_clauses(
     sheet: &[u8],
     out: &mut [u8],
     text: &mut [u8],
     count: u32,
     end: usize,
-    heap: bool,
-    n: u32,
-) -> Outcome
-    requires room { Room sheet.now (at_first count) out.old × (0 < count) × (end ≡ line_length sheet.now 0) × (n ≤ number.max_vars) }
+    o: Opening,
+) -> Result<Both, Refusal>
+    requires room { Room sheet.now (at_first count) out.old × (0 < count) × (end ≡ line_length sheet.now 0) × (o.vars ≤ number.max_vars) }
     requires end_value { next_clause (lines_from sheet.now (end + 1)) ≡ false }
-    ensures { let x = new_behind (length text.old) (opening_at heap n) (lines_from sheet.now (end + 1)) in Comes x out.old text.old result out.new text.new }
+    ensures { let x = new_behind (length text.old) (opening_at o.mode o.vars) (lines_from sheet.now (end + 1)) in Comes x out.old text.old result out.new text.new }
 {
-    if text.len() < longest(n, 0, 0) {
-        return Outcome::Refused(SHORT_BUFFER);
+    if text.len() < longest(o.vars, 0, 0) {
+        return Err(Refusal::ShortBuffer);
     }
-    let at = answer(out, 0, 1, 0, NONE);
+    let at = answer(out, 0, 1, Ok(None));
     let p = second(count, end, at);
-    let none = [0u32; 0];
-    let b = session(sheet, out, text, heap, n, &none, &none, p);
-    Outcome::Written(b)
+    let none = Clauses {
+        lits: &[],
+        ends: &[],
+    };
+    Ok(session(sheet, out, text, o, none, p))
 }
 
 // Answers a first line that is refused: the run ends, and there is no text.
-fn refused_first(out: &mut [u8], k: u32) -> Outcome
-    requires { (k < 100) × (number.answer_room ≤ length out.old) }
-    ensures { (text : List ℕ) → Comes (done none (spec.answer_line 1 k none, [])) out.old text result out.new text }
+fn refused_first(out: &mut [u8], e: Refusal) -> Both
+    requires { number.answer_room ≤ length out.old }
+    ensures { (text : List ℕ) → Comes (done none (spec.answer_line 1 (refusal_number e) none, [])) out.old text (Ok result) out.new text }
 {
-    let at = answer(out, 0, 1, k, NONE);
-    Outcome::Written(Both {
-        answers: at,
+    Both {
+        answers: answer(out, 0, 1, Err(e)),
         text: 0,
-    })
+    }
 }
 
 // A short sheet has at most so many bytes. A literal takes two at least, and so does a clause line.
 const SHORT: usize = 1024;
+
+const SHORT_CLAUSES: usize = SHORT / 2;
 
 // Answers a first line that has its form and ends at `end`: refusal 4 alone, or the session with the lines behind it, and its text.
 fn open(
@@ -184,38 +196,37 @@ fn open(
     text: &mut [u8],
     count: u32,
     end: usize,
-    heap: bool,
-    n: u32,
-) -> Outcome
+    o: Opening,
+) -> Result<Both, Refusal>
     requires { Room sheet.now (at_first count) out.old × (0 < count) × (end ≡ line_length sheet.now 0) }
-    ensures { let x = new_first (length text.old) (spec.opening (some (opening_at heap n))) (lines_from sheet.now (end + 1)) in Comes x out.old text.old result out.new text.new }
+    ensures { let x = new_first (length text.old) (spec.opening (some (opening_at o.mode o.vars))) (lines_from sheet.now (end + 1)) in Comes x out.old text.old result out.new text.new }
 {
-    if n > MAX_VARS {
-        return refused_first(out, MANY_VARS);
+    if o.vars > MAX_VARS {
+        return Ok(refused_first(out, Refusal::ManyVars));
     }
     let p = second(count, end, 0);
     if !next_is_clause(sheet, p) {
-        return without_clauses(sheet, out, text, count, end, heap, n);
+        return without_clauses(sheet, out, text, count, end, o);
     }
     if sheet.len() <= SHORT {
-        let mut lits = [0u32; SHORT / 2];
-        let mut ends = [0u32; SHORT / 2];
-        return with_clauses(sheet, out, text, count, end, heap, n, &mut lits, &mut ends);
+        return clauses_in::<SHORT_CLAUSES, SHORT_CLAUSES>(sheet, out, text, count, end, o);
     }
-    let mut lits = [0u32; MAX_LITERALS as usize];
-    let mut ends = [0u32; MAX_CLAUSES as usize];
-    with_clauses(sheet, out, text, count, end, heap, n, &mut lits, &mut ends)
+    clauses_in::<ALL_LITERALS, ALL_CLAUSES>(sheet, out, text, count, end, o)
 }
 
 // Runs a sheet of so many lines.
-pub fn from_first(sheet: &[u8], out: &mut [u8], text: &mut [u8], count: u32) -> Outcome
+pub fn from_first(
+    sheet: &[u8],
+    out: &mut [u8],
+    text: &mut [u8],
+    count: u32,
+) -> Result<Both, Refusal>
     requires { Room sheet.now (at_first count) out.old × (0 < count) }
     ensures { let ls = text-spec.lines sheet.now in let x = with_text_of (length text.old) (spec.answered ls) (held_by ls) in Comes x out.old text.old result out.new text.new }
 {
     let end = forms::text::find(sheet, NEWLINE);
     match forms::read_first(&sheet[..end]) {
-        First::Bad => refused_first(out, BAD_LINE),
-        First::Heap(n) => open(sheet, out, text, count, end, true, n),
-        First::List(n) => open(sheet, out, text, count, end, false, n),
+        None => Ok(refused_first(out, Refusal::BadLine)),
+        Some(o) => open(sheet, out, text, count, end, o),
     }
 }

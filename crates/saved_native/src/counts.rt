@@ -2,8 +2,8 @@
 ghost use Rattle.saved_text.specs.Reading.{read_text};
 ghost use Rattle.saved_native.specs.Counts.{CountsTold};
 
-use lit::BAD_SAVED;
-use saved_text::form::{Formed, read_form};
+use lit::Refusal;
+use saved_text::form::read_form;
 
 // The mode of a saved text, 0 for the heap and 1 for the list, its variables, literals and clauses. Refused, nothing changes.
 pub fn sigvort_saved_counts(
@@ -15,11 +15,11 @@ pub fn sigvort_saved_counts(
 ) -> u32
     ensures { CountsTold (read_text text.now) result list.old n.old literals.old clauses.old list.new n.new literals.new clauses.new }
 {
-    let Formed::Is(c) = read_form(text) else {
-        return BAD_SAVED;
+    let Some(c) = read_form(text) else {
+        return Refusal::BadSaved.number();
     };
     let s = c.clauses;
-    *list = c.list as u32;
+    *list = c.mode as u32;
     *n = c.n;
     *literals = s.literals as u64;
     *clauses = s.count as u64;

@@ -5,6 +5,8 @@ ghost use Rattle.saved_state.specs.Entry as entry;
 ghost use Rattle.heap_saved.specs.Reader.{heap_reader, memory_of};
 ghost use Rattle.native.specs.Small.{heap_state};
 
+use native::small::HeapNumbers;
+
 // Reads a saved text of heap mode into memory that a host lends, with the clause list. Refused, nothing changes.
 pub fn sigvort_heap_read(
     text: &[u8],
@@ -30,21 +32,19 @@ pub fn sigvort_heap_read(
         let after = memory_of lits.new ends.new values.new levels.new reasons.new trail.new opened.new activity.new heap.new indices.new decision.new (heap_state len.new level.new curr_i.new members.new inc.new decay.new) in
         Answered (entry.read heap_reader text.now before) before result number.NONE after }
 {
+    let mut numbers = HeapNumbers {
+        len,
+        level,
+        curr_i,
+        members,
+        inc,
+        decay,
+    };
     let a = heap_saved::reading::read(
         text, lits, ends, values, levels, reasons, trail, opened, activity, heap, indices, decision,
     );
-    if a.status != 0 {
-        return a.status;
+    if a.status == 0 {
+        numbers.set(a.state);
     }
-    let s = a.state;
-    let t = s.trail;
-    let h = s.vsids;
-    let step = h.step;
-    *len = t.len;
-    *level = t.level;
-    *curr_i = t.curr_i;
-    *members = h.len;
-    *inc = step.inc;
-    *decay = step.decay;
-    0
+    a.status
 }

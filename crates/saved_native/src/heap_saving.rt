@@ -43,7 +43,7 @@ pub fn sigvort_heap_save(
         let x = wrote n clauses mode lits.now literals ends.now (λ u. saved_heap n lits.now ends.now u.trail u.chooser) before text.old in
         Told x text.old written.old result text.new written.new }
 {
-    let a = heap_saved::save(
+    let saved = heap_saved::save(
         n,
         literals,
         clauses,
@@ -59,24 +59,19 @@ pub fn sigvort_heap_save(
         indices,
         decision,
         HeapState {
-            trail: TrailState {
-                len: len,
-                level: level,
-                curr_i: curr_i,
-            },
+            trail: TrailState { len, level, curr_i },
             vsids: VsidsState {
                 len: members,
-                step: Step {
-                    inc: inc,
-                    decay: decay,
-                },
+                step: Step { inc, decay },
             },
         },
         text,
     );
-    if a.status != 0 {
-        return a.status;
+    match saved {
+        Ok(length) => {
+            *written = length;
+            0
+        }
+        Err(refusal) => refusal.number(),
     }
-    *written = a.reply;
-    0
 }

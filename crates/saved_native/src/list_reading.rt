@@ -5,6 +5,8 @@ ghost use Rattle.saved_state.specs.Entry as entry;
 ghost use Rattle.list_saved.specs.Reader.{list_reader, memory_of};
 ghost use Rattle.native.specs.Small.{list_state};
 
+use native::small::ListNumbers;
+
 // Reads a saved text of list mode into memory that a host lends, with the clause list. Refused, nothing changes.
 pub fn sigvort_list_read(
     text: &[u8],
@@ -29,20 +31,19 @@ pub fn sigvort_list_read(
         let after = memory_of lits.new ends.new values.new levels.new reasons.new trail.new opened.new next.new prev.new ts.new (list_state len.new level.new curr_i.new start.new search.new timestamp.new) in
         Answered (entry.read list_reader text.now before) before result number.NONE after }
 {
+    let mut numbers = ListNumbers {
+        len,
+        level,
+        curr_i,
+        start,
+        search,
+        timestamp,
+    };
     let a = list_saved::reading::read(
         text, lits, ends, values, levels, reasons, trail, opened, next, prev, ts,
     );
-    if a.status != 0 {
-        return a.status;
+    if a.status == 0 {
+        numbers.set(a.state);
     }
-    let s = a.state;
-    let t = s.trail;
-    let l = s.vmtf;
-    *len = t.len;
-    *level = t.level;
-    *curr_i = t.curr_i;
-    *start = l.start;
-    *search = l.search;
-    *timestamp = l.timestamp;
-    0
+    a.status
 }

@@ -41,7 +41,7 @@ pub fn sigvort_list_save(
         let x = wrote n clauses mode lits.now literals ends.now (λ u. saved_list n lits.now ends.now u.trail u.chooser) before text.old in
         Told x text.old written.old result text.new written.new }
 {
-    let a = list_saved::save(
+    let saved = list_saved::save(
         n,
         literals,
         clauses,
@@ -56,22 +56,20 @@ pub fn sigvort_list_save(
         prev,
         ts,
         ListState {
-            trail: TrailState {
-                len: len,
-                level: level,
-                curr_i: curr_i,
-            },
+            trail: TrailState { len, level, curr_i },
             vmtf: VmtfState {
-                start: start,
-                search: search,
-                timestamp: timestamp,
+                start,
+                search,
+                timestamp,
             },
         },
         text,
     );
-    if a.status != 0 {
-        return a.status;
+    match saved {
+        Ok(length) => {
+            *written = length;
+            0
+        }
+        Err(refusal) => refusal.number(),
     }
-    *written = a.reply;
-    0
 }

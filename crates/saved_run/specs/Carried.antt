@@ -1,5 +1,5 @@
 -- A sheet of calls on a saved session, as code runs it: what was loaded of the text, its refusals, and the calls on it. Assumes nothing.
-use Rattle.std.specs.Prelude.{ℕ, ◌≤◌, ◌<◌, ◌≡◌, Bool, true, cond, take}
+use Rattle.std.specs.Prelude.{ℕ, ◌≤◌, ◌<◌, ◌≡◌, Bool, true, cond, take, Ok, Err}
 use Rattle.std.proofs.Math.Path.{refl, ap}
 use Rattle.std.proofs.Common.{sym, subst, ◌∙◌, arith, length-take-le}
 use Rattle.std.proofs.Math.Bool.{false}
@@ -9,6 +9,8 @@ use borrow.Author.Tests.{leb-true, le-leb, lt-leb}
 use Rattle.std.proofs.Math.Dec.{leb}
 use Rattle.std.proofs.Math.ListN.{length}
 use Rattle.laws.specs.Tests.{true_or_false}
+use Rattle.lit.specs.declared.Refusal.{Refusal}
+use Rattle.lit.specs.Refusals.{refusal_number, refusal_above}
 use Rattle.lit.specs.Numbers.{max_vars, max_clauses, max_literals, short_buffer, many_vars, bad_clauses, bad_state, bad_saved}
 use Rattle.formula.specs.Good.{clauses_facts}
 use Rattle.trail.specs.Trail.{Trail}
@@ -30,7 +32,9 @@ use Rattle.saved_text.specs.FormLaws.{opens_said}
 use Rattle.saved_state.specs.Said.{lits_said, ends_said}
 use Rattle.saved_state.specs.Entry.{Reader, Memory, memory_said, read_with}
 use Rattle.saved_state.specs.Sound.{state_test, Sound}
-use Rattle.saved_state.specs.Judging.{form_or, LoadedIs, ends_length}
+use Rattle.saved_state.specs.declared.judging.Unfit.{Unfit}
+use Rattle.saved_state.specs.declared.judging.Unfit.TheVariants as a-reason
+use Rattle.saved_state.specs.Judging.{unfit_number, clauses_fit, form_or, LoadedIs, ends_length}
 use Rattle.sheet.specs.Stages as spec
 use Rattle.sheet.specs.Stages.{Stage, in_heap, in_list, stage_behind}
 use Rattle.sheet.proofs.Turns.{heap_answers, list_answers}
@@ -38,7 +42,6 @@ use Rattle.sheet.specs.Running.{Holds}
 use Rattle.sheet.specs.Opening.{at_first}
 use Rattle.saved_sheet.specs.Sheets.{Held, text_room, room_for, heap_held, list_held, held_said, held_of, held_in, carried_on}
 use Rattle.saved_run.specs.declared.Both.{Both}
-use Rattle.saved_run.specs.declared.Outcome.TheVariants as outcome
 use Rattle.saved_run.specs.Outcomes.{Comes}
 use Rattle.saved_run.specs.Ends.{stage_text, Saves}
 use Rattle.saved_run.specs.Behind.{heap_behind, list_behind}
@@ -47,6 +50,10 @@ use Rattle.saved_run.specs.Holding.{codes_held, ends_held}
 -- the refusal of what was loaded, 6 or 7, or 2 for the room of its text; or 0
 abbrev pub refusal_of : ℕ → ℕ → ℕ → Bool → Bool → ℕ → ℕ
 refusal_of n clauses literals good passed space = cond good (cond passed (cond (leb (text_room n clauses literals) space) 0 short_buffer) bad_state) bad_clauses
+
+pub unfit_refusal : (u : Unfit) (n clauses literals space : ℕ) → unfit_number u ≡ refusal_of n clauses literals (clauses_fit {S = Unit {0}} (Err u)) false space
+unfit_refusal a-reason.Clauses n clauses literals space = refl
+unfit_refusal a-reason.State n clauses literals space = refl
 
 -- What was loaded of a text of a mode that opens n variables, into slices that have room for a good clause list.
 pub record Loads {C : Type 0} (R : Reader C) (s : Saved) (n literals clauses : ℕ) (good passed : Bool) (lits ends : List ℕ) (t : Trail) (c : C) : Type 0 where
@@ -88,8 +95,8 @@ module _ {old : List ℕ} {at n : ℕ} (list : Bool) (w : OpensWith old at (open
       go none q e = ap refuse (sym e)
       go (some s) q e = said_many s q ∙ ap refuse (sym e)
 
-pub came_refused : {x : Result Held} {j k : ℕ} (space : ℕ) (cs : List (Option Call)) (out text : List ℕ) → x ≡ refuse j → k ≡ j → Comes (carried_on space cs x) out text (outcome.Refused k) out text
-came_refused space cs out text e q = rw e (ap outcome.Refused q, refl, refl)
+pub came_refused : {x : Result Held} (space : ℕ) (cs : List (Option Call)) (out text : List ℕ) (e : Refusal) → x ≡ refuse (refusal_number e) → Comes (carried_on space cs x) out text (Err e) out text
+came_refused space cs out text e q = rw q (e, refl, refl, refl, refl)
 
 -- ---- what was loaded
 
@@ -126,22 +133,22 @@ module _ {C : Type 0} (R : Reader C) (S : Sound R) (hold : ℕ → Memory C → 
       let few = le-leb s.opening.vars max_vars (omega (arith, l.vars, small)) in
       holds s ∙ rw (few, ← l.is.good_clauses) (ap (λ (k : ℕ). mapped (hold k) (need good bad_clauses (need (state_test R s) bad_state (done none (memory_said R s))))) l.vars)
 
-  pub loaded_refused : (space : ℕ) (cs : List (Option Call)) {k : ℕ} (out text : List ℕ) → k ≡ refusal_of n clauses literals good passed space → (k ≡ 0 → ⊥)
-      → Comes (carried_on space cs (held_said R.mode s)) out text (outcome.Refused k) out text
+  pub loaded_refused : (space : ℕ) (cs : List (Option Call)) (e : Refusal) (out text : List ℕ) → refusal_number e ≡ refusal_of n clauses literals good passed space
+      → Comes (carried_on space cs (held_said R.mode s)) out text (Err e) out text
   unfolding need
-  loaded_refused space cs {k} out text e z = rw said (go good passed (state_test R s) l.is.state_passed e)
+  loaded_refused space cs e out text q = rw said (go good passed (state_test R s) l.is.state_passed q)
     where
       needs : room_for (hold n (memory_said R s)) ≡ text_room n clauses literals
       needs = room n (memory_said R s) ∙ (λ i. text_room n (sym l.is.clause_count i) (sym l.is.literal_count i))
 
-      go : (g p d : Bool) → (g ≡ true → p ≡ d) → k ≡ refusal_of n clauses literals g p space
-          → Comes (carried_on space cs (mapped (hold n) (need g bad_clauses (need d bad_state (done none (memory_said R s)))))) out text (outcome.Refused k) out text
-      go false p d h e = (ap outcome.Refused e, refl, refl)
-      go true p false h e = (ap outcome.Refused (rw (h refl) at e), refl, refl)
-      go true p true h e =
+      go : (g p d : Bool) → (g ≡ true → p ≡ d) → refusal_number e ≡ refusal_of n clauses literals g p space
+          → Comes (carried_on space cs (mapped (hold n) (need g bad_clauses (need d bad_state (done none (memory_said R s)))))) out text (Err e) out text
+      go false p d h q = (e, refl, q, refl, refl)
+      go true p false h q = (e, refl, rw (h refl) at q, refl, refl)
+      go true p true h q =
           true_or_false (leb (text_room n clauses literals) space)
-          (λ q. absurd (z (rw (h refl, q) at e)))
-          (λ q. rw (needs, q) (ap outcome.Refused (rw (h refl, q) at e), refl, refl))
+          (λ t. absurd (let z = rw (h refl, t) at q in omega (arith, refusal_above e, z)))
+          (λ f. rw (needs, f) (e, refl, rw (h refl, f) at q, refl, refl))
 
   module _ (space : ℕ) (none-fits : 0 ≡ refusal_of n clauses literals good passed space) where
     abbrev memory : Memory C
@@ -181,22 +188,22 @@ module _ {C : Type 0} (R : Reader C) (S : Sound R) (hold : ℕ → Memory C → 
 module _ (n : ℕ) (lits ends : List ℕ) {sheet out text out' text' : List ℕ} {count : ℕ} {b : Both} (room : text_room n (length ends) (length lits) ≤ length text) where
   -- answers and text of the session behind the lines
   carried_written : {stage : Stage} (answers text_is : List ℕ) → Saves sheet (at_first count) stage out text b out' text' → spec.answers 1 stage (lines sheet) ≡ answers → stage_text (stage_behind stage (lines sheet)) ≡ text_is
-      → Comes (need (leb (text_room n (length ends) (length lits)) (length text)) short_buffer (done none (answers, text_is))) out text (outcome.Written b) out' text'
+      → Comes (need (leb (text_room n (length ends) (length lits)) (length text)) short_buffer (done none (answers, text_is))) out text (Ok b) out' text'
   unfolding need
   carried_written {stage} answers text_is s a t =
       let first : b.answers ≡ length answers = omega (arith, s.answers.count, ap length a) in
       let second : b.text ≡ length text_is = omega (arith, s.saved.place, ap length t) in
       rw (le-leb (text_room n (length ends) (length lits)) (length text) room)
-      (ap outcome.Written (λ i. record { answers = first i; text = second i }), s.answers.buffer ∙ ap (λ (x : List ℕ). written 0 x out) a, s.saved.buffer ∙ ap (λ (x : List ℕ). written 0 x text) t)
+      (ap Ok (λ i. record { answers = first i; text = second i }), s.answers.buffer ∙ ap (λ (x : List ℕ). written 0 x out) a, s.saved.buffer ∙ ap (λ (x : List ℕ). written 0 x text) t)
 
   pub heap_carried : (t : Trail) (h : Vsids) → Saves sheet (at_first count) (in_heap n lits ends (record { trail = t; chooser = h })) out text b out' text'
-      → Comes (carried_on (length text) (map call_in (lines sheet)) (done none (heap_held n (lits, ends, t, h)))) out text (outcome.Written b) out' text'
+      → Comes (carried_on (length text) (map call_in (lines sheet)) (done none (heap_held n (lits, ends, t, h)))) out text (Ok b) out' text'
   heap_carried t h s =
       let u : Session n (length ends) (heap_ops n lits ends) = record { trail = t; chooser = h } in
       carried_written _ _ s (heap_answers n lits ends u 1 (lines sheet)) (ap stage_text (heap_behind n lits ends (lines sheet) (starting_with n (length ends) (heap_ops n lits ends) u)))
 
   pub list_carried : (t : Trail) (l : Vmtf) → Saves sheet (at_first count) (in_list n lits ends (record { trail = t; chooser = l })) out text b out' text'
-      → Comes (carried_on (length text) (map call_in (lines sheet)) (done none (list_held n (lits, ends, t, l)))) out text (outcome.Written b) out' text'
+      → Comes (carried_on (length text) (map call_in (lines sheet)) (done none (list_held n (lits, ends, t, l)))) out text (Ok b) out' text'
   list_carried t l s =
       let u : Session n (length ends) (list_ops n lits) = record { trail = t; chooser = l } in
       carried_written _ _ s (list_answers n lits ends u 1 (lines sheet)) (ap stage_text (list_behind n lits ends (lines sheet) (starting_with n (length ends) (list_ops n lits) u)))

@@ -1,7 +1,7 @@
 -- What a run that saves its session leaves: answers, and a text.
-use Rattle.std.specs.Prelude.{ℕ, true, List, []}
+use Rattle.std.specs.Prelude.{ℕ, List, []}
 use Rattle.saved_text.specs.Saved.{text_of}
-use Rattle.saved_text.specs.Puts.{Puts}
+use Rattle.forms.specs.Written.{Wrote}
 use Rattle.saved_state.specs.Written.{saved_heap, saved_list}
 use Rattle.sheet.specs.declared.Place.{Place}
 use Rattle.sheet.specs.Stages.{Stage, reading, in_heap, in_list, opened, stage_behind}
@@ -22,4 +22,4 @@ stage_text (in_list n lits ends s) = text_in (in_list n lits ends s)
 -- the lines that are left are answered, and the text of the session behind them is written
 pub record Saves (sheet : List ℕ) (p : Place) (stage : Stage) (out text : List ℕ) (r : Both) (out' text' : List ℕ) : Type 0 where
   pub answers : Ended sheet p stage out r.answers out'
-  pub saved : Puts true 0 (stage_text (stage_behind stage (lines_from sheet p.from))) text text' r.text
+  pub saved : Wrote 0 (stage_text (stage_behind stage (lines_from sheet p.from))) text text' r.text

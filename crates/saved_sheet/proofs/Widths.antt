@@ -24,7 +24,6 @@ use Rattle.vsids.specs.Vsids.{Vsids, is_on, is_open, remove_first, Found, get_ne
 use Rattle.vsids.specs.Vsids as vsids
 use Rattle.vmtf.specs.Vmtf.{Vmtf, max_stamp, rescore, relink, tick, move_to_front, move_all, by_stamp, any_open, first_open, from}
 use Rattle.vmtf.specs.Vmtf as vmtf
-use Rattle.vmtf.specs.declared.Next as code
 use Rattle.choosers.specs.Heap.{heap_ops}
 use Rattle.choosers.specs.Heap as heap
 use Rattle.choosers.specs.List.{list_ops}
@@ -204,11 +203,11 @@ unfolding move_all
 moves_few [] l q = q
 moves_few (v ∷ vs) l q = moves_few vs (move_to_front v l) (move_few v l q)
 
-next_few : (values : List ℕ) (l : Vmtf) → FewStamps l → IfNext FewStamps (list.next_of l (vmtf.get_next values l))
+next_few : (values : List ℕ) (l : Vmtf) → FewStamps l → IfNext FewStamps (list.next_of (vmtf.get_next values l))
 unfolding vmtf.get_next
 next_few values l q =
-    cond_elim (λ (r : code.Next). IfNext FewStamps (list.next_of l r)) (eqb (first_open values (from l.next (length l.next) l.search)) NONE)
-    (λ _. cond_elim (λ (r : code.Next). IfNext FewStamps (list.next_of l r)) (any_open values (length values)) (λ _. tt) (λ _. q))
+    cond_elim (λ (r : vmtf.Found). IfNext FewStamps (list.next_of r)) (eqb (first_open values (from l.next (length l.next) l.search)) NONE)
+    (λ _. cond_elim (λ (r : vmtf.Found). IfNext FewStamps (list.next_of r)) (any_open values (length values)) (λ _. tt) (λ _. q))
     (λ _. q)
 
 list_keeps : (n : ℕ) (lits : List ℕ) → Keeps (list_ops n lits) FewStamps

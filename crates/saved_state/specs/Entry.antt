@@ -1,7 +1,9 @@
 -- What writing a session to a buffer and reading a text into lent memory answer, in either mode.
-use Rattle.std.specs.Prelude.{ℕ, Bool, true, false, ◌&&◌, List, leb, length}
+use Rattle.std.specs.Prelude.{ℕ, Bool, true, false, ◌&&◌, List, leb, length, Ok, Err}
+use Rattle.std.specs.Prelude as code
 use Rattle.std.proofs.Math.Option.{Option, none, some}
-use Rattle.lit.specs.Numbers.{short_buffer, bad_saved}
+use Rattle.lit.specs.Numbers.{NONE, short_buffer, bad_saved}
+use Rattle.lit.specs.declared.Refusal.{Refusal}
 use Rattle.formula.specs.Clauses.{clauses_ok}
 use Rattle.trail.specs.Trail.{Trail}
 use Rattle.book.specs.Session.{Result, done, refuse, need, Session}
@@ -20,6 +22,11 @@ wrote n m M lits literals ends saved_of s buffer =
     let text = text_of (saved_of s) in
     checked n (lengths_ok n m M lits literals ends s true) (clauses_ok n lits ends) (M.state s.trail s.chooser)
     (need (leb (length text) (length buffer)) short_buffer (done (some (length text)) (written 0 text buffer)))
+
+-- the reply of code that writes: the byte count, or NONE where it is refused
+abbrev pub count_of : code.Result ℕ Refusal → ℕ
+count_of (Ok k) = k
+count_of (Err e) = NONE
 
 -- 15: the bytes are no text, or one of the other mode
 abbrev pub same_mode : Mode → Mode → Bool

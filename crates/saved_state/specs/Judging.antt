@@ -1,21 +1,25 @@
 -- What was read of a saved text, judged by its counts and its greatest numbers: its clauses, and whether a trail and the variables of a line have room. Assumes nothing.
-use Rattle.std.specs.Prelude.{ℕ, zero, suc, ◌+◌, ◌-◌, ◌*◌, ◌<◌, ◌≤◌, ◌≡◌, refl, ◌↔◌, Bool, true, false, ◌&&◌, ◌||◌, leb, ltb, eqb, length, get_or, take}
+use Rattle.std.specs.Prelude.{ℕ, zero, suc, ◌+◌, ◌-◌, ◌*◌, ◌<◌, ◌≤◌, ◌≡◌, refl, ◌↔◌, Bool, true, false, ◌&&◌, ◌||◌, leb, ltb, eqb, length, get_or, take, Some, None, Result, Ok, Err}
 use Rattle.std.proofs.Common.{sym, ap, subst, ◌∙◌, arith, leb-true, le-leb, eq-eqb, ne_eqb, ltb-true, lt-ltb, length-append, take_all}
 use Rattle.std.proofs.Math.Option.{Option, none, some}
 use mathlib.Core.List.{List, [], ◌∷◌, flatten}
 use Rattle.laws.specs.Each.{Each}
 use Rattle.laws.specs.Every.{every_all}
 use Rattle.laws.specs.Tests.{and_left, and_right, and_both, same_test}
-use Rattle.lit.specs.Numbers.{max_clauses, max_literals, bad_saved}
+use Rattle.lit.specs.Numbers.{max_vars, max_clauses, max_literals, bad_clauses, bad_state, bad_saved}
 use Rattle.lit.specs.Lits.{index}
 use Rattle.formula.specs.Clauses.{start, no_fall_at, ends_ok, list_ok, clauses_ok}
 use Rattle.formula.specs.Good.{list_facts, clauses_facts}
 use Rattle.trail.specs.Trail.{Trail}
+use Rattle.book.specs.Session.{need}
+use Rattle.session.specs.Entry.{sizes_checked, checked}
+use Rattle.session.specs.Checks.{state_refusal}
 use Rattle.saved_text.specs.Saved.{Saved, WellFormed}
 use Rattle.saved_text.specs.Greatest.{greatest, greatest_within, within_greatest}
 use Rattle.saved_text.specs.declared.form.Counts.{Counts}
-use Rattle.saved_text.specs.declared.form.Formed.TheVariants as a-form
 use Rattle.saved_text.specs.Form.{ends_from, ClausesHeld, Front, Fronts, formed_of}
+use Rattle.saved_state.specs.declared.judging.Unfit as unfit
+use Rattle.saved_state.specs.declared.judging.Unfit.TheVariants as a-reason
 use Rattle.saved_state.specs.Said.{lits_said, ends_said, row, trail_said}
 use Rattle.saved_state.specs.Entry.{Reader}
 use Rattle.saved_state.specs.Sound.{state_test}
@@ -33,15 +37,30 @@ clauses_good n count literals top = leb count max_clauses && (leb literals max_l
 abbrev pub fitting : ℕ → ℕ → ℕ → ℕ → ℕ → Bool
 fitting n codes code members member = leb codes n && (leb members n && (below codes code (n * 2) && below members member n))
 
+-- why what was read is no session: the number of its refusal; and whether the clauses are not why
+abbrev pub unfit_number : unfit.Unfit → ℕ
+unfit_number a-reason.Clauses = bad_clauses
+unfit_number a-reason.State = bad_state
+
+abbrev pub clauses_fit : {S : Type 0} → Result S unfit.Unfit → Bool
+clauses_fit (Ok s) = true
+clauses_fit (Err a-reason.Clauses) = false
+clauses_fit (Err a-reason.State) = true
+
+pub unfit_refused : (S : Type 0) (u : unfit.Unfit) (n : ℕ) → n ≤ max_vars → unfit_number u ≡ state_refusal n true (clauses_fit {S = S} (Err u)) false
+unfolding checked sizes_checked need
+unfit_refused S a-reason.Clauses n h = rw (le-leb n max_vars h)
+unfit_refused S a-reason.State n h = rw (le-leb n max_vars h)
+
 abbrev pub form_or : Option Saved → ℕ → ℕ
 form_or none k = bad_saved
 form_or (some s) k = k
 
-pub form_some : (o : Option Saved) {c : Counts} (k : ℕ) → a-form.Is c ≡ formed_of o → k ≡ form_or o k
+pub form_some : (o : Option Saved) {c : Counts} (k : ℕ) → Some c ≡ formed_of o → k ≡ form_or o k
 form_some none k e = let z : ◌≡◌ {A = ℕ} 0 1 = cc in absurd (omega arith)
 form_some (some s) k e = refl
 
-pub form_none : (o : Option Saved) (k : ℕ) → a-form.Bad ≡ formed_of o → bad_saved ≡ form_or o k
+pub form_none : (o : Option Saved) (k : ℕ) → None ≡ formed_of o → bad_saved ≡ form_or o k
 form_none none k e = refl
 form_none (some s) k e = let z : ◌≡◌ {A = ℕ} 0 1 = cc in absurd (omega arith)
 

@@ -1,6 +1,6 @@
 -- A saved text in the pieces that are written one behind the other: the first line, the clauses, the lines of the trail, and those of the chooser; and
 -- what a good session says of the numbers on them. Assumes nothing.
-use Rattle.std.specs.Prelude.{ℕ, ◌+◌, ◌*◌, ◌<◌, ◌≤◌, ◌≡◌, Bool, List, [], ◌∷◌, ◌++◌, map, length, drop}
+use Rattle.std.specs.Prelude.{ℕ, ◌+◌, ◌*◌, ◌<◌, ◌≤◌, ◌≡◌, List, [], ◌∷◌, ◌++◌, map, length, drop}
 use Rattle.std.proofs.Common.{ap, ◌∙◌, append_assoc, arith, drop_of_length-le}
 use Rattle.laws.specs.Each.{Each}
 use Rattle.lit.specs.Numbers.{NONE, max_vars}
@@ -13,9 +13,9 @@ use Rattle.forms.specs.Letters.{clause_letter}
 use Rattle.forms.specs.Forms.{Mode}
 use Rattle.forms.specs.Spelling.{Whole, ended, mode_text}
 use Rattle.saved_text.specs.Saved.{Form, whole, reason, form, Row, clause_form, chooser_forms, Rows, row_line, row_lines, text_of}
-use Rattle.saved_text.specs.Puts.{Puts, Room, row_text, first_text, max_row}
+use Rattle.saved_text.specs.Puts.{row_text, first_text, max_row}
+use Rattle.saved_text.specs.Sinks.{SinkLaws}
 use Rattle.saved_text.specs.Writing.{ended_append, text_parts, rows_parts}
-use Rattle.saved_text.specs.Written.{puts_more, puts_none, room_first, room_next}
 use Rattle.saved_state.specs.Written.{codes_of, along, saved_of}
 use Rattle.saved_state.specs.Eachs.{each_at}
 use Rattle.saved_state.specs.Loops.{Codes}
@@ -37,25 +37,6 @@ joined a b c d e f g = simp append_assoc
 -- how long a text over n variables with so many clauses and literals is at most
 abbrev pub longest : ℕ → ℕ → ℕ → ℕ
 longest n clauses literals = 80 + 41 * n + 2 * clauses + 5 * literals
-
--- so many variables, clauses and literals the shorter scratches have room for; `src/saving.rt` has the same numbers for code
-abbrev pub few : ℕ
-few = 64
-
-abbrev pub few_clauses : ℕ
-few_clauses = 64
-
-abbrev pub few_literals : ℕ
-few_literals = 256
-
-abbrev pub more : ℕ
-more = 512
-
-abbrev pub more_clauses : ℕ
-more_clauses = 512
-
-abbrev pub more_literals : ℕ
-more_literals = 2048
 
 -- the text is these, and the lines of the chooser
 pub text_pieces : (mode : Mode) (n : ℕ) (lits ends : List ℕ) (t : Trail) (rows : List (List ℕ))
@@ -117,36 +98,37 @@ trail_lines {n} {m} {t} g small few =
 abbrev clauses_left : List ℕ → List ℕ → ℕ → List ℕ
 clauses_left lits ends i = ended (map (row_line clause_form) (drop i (clauses lits ends)))
 
--- once they are written too, from place k of the buffer u on, the text of all clauses is
-pub record ClausesPut (write : Bool) (at : ℕ) (lits ends l u : List ℕ) (k i : ℕ) : Type 0 where
+-- once they are put too, the text of all clauses is
+pub record ClausesPut {S : Type 0} (puts : S → List ℕ → S → Type 0) (room : S → List ℕ → Type 0) (lits ends : List ℕ) (s u : S) (i : ℕ) : Type 0 where
   pub within : i ≤ length ends
-  pub room : Room write k (clauses_left lits ends i) u
-  pub rest : (r : List ℕ) (e : ℕ) → Puts write k (clauses_left lits ends i) u r e → Puts write at (clauses_text lits ends) l r e
-
-pub clauses_start : {write : Bool} {at : ℕ} {l : List ℕ} (lits ends : List ℕ) → Room write at (clauses_text lits ends) l → ClausesPut write at lits ends l l at 0
-unfolding clauses_text
-clauses_start lits ends m = record { within = omega arith; room = m; rest = λ r e w. w }
+  pub left : room u (clauses_left lits ends i)
+  pub rest : (v : S) → puts u (clauses_left lits ends i) v → puts s (clauses_text lits ends) v
 
 clauses_next_line : (lits ends : List ℕ) (i : ℕ) → i < length ends → clauses_left lits ends i ≡ row_text clause_letter whole (clause lits ends i) ++ clauses_left lits ends (i + 1)
 unfolding ended
 clauses_next_line lits ends i h = rw (drop_clauses lits ends i h) (ended_append (row_line clause_form (clause lits ends i) ∷ []) (map (row_line clause_form) (drop (i + 1) (clauses lits ends))))
 
-module _ {write : Bool} {at : ℕ} {lits ends l u : List ℕ} {k i : ℕ} (p : ClausesPut write at lits ends l u k i) where
-  pub clause_room : i < length ends → Room write k (row_text clause_letter whole (clause lits ends i)) u
-  clause_room h = room_first (row_text clause_letter whole (clause lits ends i)) (clauses_left lits ends (i + 1)) (rw (clauses_next_line lits ends i h) at p.room)
+module _ {S : Type 0} {puts : S → List ℕ → S → Type 0} {room : S → List ℕ → Type 0} (laws : SinkLaws puts room) (lits ends : List ℕ) where
+  pub clauses_start : (s : S) → room s (clauses_text lits ends) → ClausesPut puts room lits ends s s 0
+  unfolding clauses_text
+  clauses_start s m = record { within = omega arith; left = m; rest = λ v w. w }
 
-  pub clauses_next : {u' : List ℕ} {k' : ℕ} → i < length ends → Puts write k (row_text clause_letter whole (clause lits ends i)) u u' k' → ClausesPut write at lits ends l u' k' (i + 1)
-  clauses_next h w =
-      let line = row_text clause_letter whole (clause lits ends i) in
-      record {
-        within = omega arith;
-        room = room_next line (clauses_left lits ends (i + 1)) (rw (clauses_next_line lits ends i h) at p.room) w;
-        rest = λ r e v. p.rest r e (rw (clauses_next_line lits ends i h) (puts_more w v));
-      }
+  module _ {s u : S} {i : ℕ} (p : ClausesPut puts room lits ends s u i) where
+    pub clause_room : i < length ends → room u (row_text clause_letter whole (clause lits ends i))
+    clause_room h = laws.room_first (row_text clause_letter whole (clause lits ends i)) (clauses_left lits ends (i + 1)) (rw (clauses_next_line lits ends i h) at p.left)
 
-  pub clauses_end : length ends ≤ i → Puts write at (clauses_text lits ends) l u k
-  unfolding ended
-  clauses_end h = p.rest u k (rw (drop_of_length-le (clauses lits ends) {i = i} (rw length_clauses h)) (puts_none write k u))
+    pub clauses_next : (v : S) → i < length ends → puts u (row_text clause_letter whole (clause lits ends i)) v → ClausesPut puts room lits ends s v (i + 1)
+    clauses_next v h w =
+        let line = row_text clause_letter whole (clause lits ends i) in
+        record {
+          within = omega arith;
+          left = laws.room_next line (clauses_left lits ends (i + 1)) (rw (clauses_next_line lits ends i h) at p.left) w;
+          rest = λ x q. p.rest x (rw (clauses_next_line lits ends i h) (laws.puts_more w q));
+        }
+
+    pub clauses_end : length ends ≤ i → puts s (clauses_text lits ends) u
+    unfolding ended
+    clauses_end h = p.rest u (rw (drop_of_length-le (clauses lits ends) {i = i} (rw length_clauses h)) (laws.puts_none u))
 
 -- each has numbers that fit, and not too many
 pub clause_fits_lem : {lits ends : List ℕ} {i : ℕ} → GoodShape lits ends → Each (Row clause_form) (clauses lits ends) → i < length ends → Each Whole (clause lits ends i) × (length (clause lits ends i) ≤ max_row)

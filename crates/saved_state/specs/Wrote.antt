@@ -22,7 +22,7 @@ use Rattle.session.specs.Entered.{Sound, GoodMemory}
 use Rattle.session.proofs.Entered.{passed_good, good_passed}
 use Rattle.forms.specs.Text.{written}
 use Rattle.saved_text.specs.Saved.{Saved, text_of}
-use Rattle.saved_text.specs.Puts.{Puts}
+use Rattle.forms.specs.Written.{Wrote}
 use Rattle.saved_state.specs.Entry.{wrote}
 
 -- bytes written into a buffer that has room stand at its front
@@ -79,6 +79,6 @@ module _ (n m : ℕ) (M : Mode) (lits : List ℕ) (literals : ℕ) (ends : List 
     unfolding wrote need
     wrote_none e = rw (accepted n _ _ _ _ none, e) (record { status = refl; reply = refl; session = refl })
 
-    pub wrote_all : leb (length (text_of (saved_of s))) (length buffer) ≡ true → (k : ℕ) (u : List ℕ) → Puts true 0 (text_of (saved_of s)) buffer u k → Answered (wrote n m M lits literals ends saved_of s buffer) buffer 0 k u
+    pub wrote_all : leb (length (text_of (saved_of s))) (length buffer) ≡ true → (k : ℕ) (u : List ℕ) → Wrote 0 (text_of (saved_of s)) buffer u k → Answered (wrote n m M lits literals ends saved_of s buffer) buffer 0 k u
     unfolding wrote need
     wrote_all e k u w = rw (accepted n _ _ _ _ none, e) (record { status = refl; reply = omega (arith, w.place); session = w.buffer })

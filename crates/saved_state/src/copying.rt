@@ -1,18 +1,25 @@
 // Copying a clause list or a trail into memory that was lent.
 ghost use Rattle.std.specs.Prelude.{◌≡◌, ◌≤◌, length, take};
 
-use crate::loading::{copy_bytes, copy_words};
+// Copies as much as out has room for from the front of a slice.
+pub fn copy_front<T: Copy>(src: &[T], out: &mut [T])
+    requires { length out.old ≤ length src.now }
+    ensures { out.new ≡ take (length out.old) src.now }
+{
+    let k = out.len();
+    out.copy_from_slice(&src[..k]);
+}
 
 // Copies a clause list from the fronts of slices.
 pub fn copy_clauses(src_lits: &[u32], src_ends: &[u32], lits: &mut [u32], ends: &mut [u32])
     requires { (length lits.old ≤ length src_lits.now) × (length ends.old ≤ length src_ends.now) }
     ensures { (lits.new ≡ take (length lits.old) src_lits.now) × (ends.new ≡ take (length ends.old) src_ends.now) }
 {
-    copy_words(src_lits, lits);
-    copy_words(src_ends, ends);
+    copy_front(src_lits, lits);
+    copy_front(src_ends, ends);
 }
 
-// Copies the lists of a trail from the fronts of slices.
+// Copies the lists of a trail from the fronts of slices. They stay flat: a struct of them would be made for this one call.
 pub fn copy_trail(
     src_values: &[u8],
     src_levels: &[u32],
@@ -28,9 +35,9 @@ pub fn copy_trail(
     requires { (length values.old ≤ length src_values.now) × (length levels.old ≤ length src_levels.now) × (length reasons.old ≤ length src_reasons.now) × (length trail.old ≤ length src_trail.now) × (length opened.old ≤ length src_opened.now) }
     ensures { (values.new ≡ take (length values.old) src_values.now) × (levels.new ≡ take (length levels.old) src_levels.now) × (reasons.new ≡ take (length reasons.old) src_reasons.now) × (trail.new ≡ take (length trail.old) src_trail.now) × (opened.new ≡ take (length opened.old) src_opened.now) }
 {
-    copy_bytes(src_values, values);
-    copy_words(src_levels, levels);
-    copy_words(src_reasons, reasons);
-    copy_words(src_trail, trail);
-    copy_words(src_opened, opened);
+    copy_front(src_values, values);
+    copy_front(src_levels, levels);
+    copy_front(src_reasons, reasons);
+    copy_front(src_trail, trail);
+    copy_front(src_opened, opened);
 }

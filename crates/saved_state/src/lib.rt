@@ -7,10 +7,3 @@ pub mod loading;
 pub mod memory;
 pub mod saving;
 pub mod writing;
-
-// What writing a session answers: 0 or the refusal, and the byte count or NONE.
-#[derive(Clone, Copy)]
-pub struct TextAnswer {
-    pub status: u32,
-    pub reply: u32,
-}

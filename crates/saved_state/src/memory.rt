@@ -1,111 +1,84 @@
 // The trail, the heap and the list of a saved session, set from the numbers of its lines.
 ghost use Rattle.std.specs.Prelude.{◌≡◌, ℕ, ◌<◌, ◌≤◌, length, get_or, take};
 ghost use Rattle.lit.specs.Numbers.{NONE as none};
-ghost use Rattle.trail.specs.Memory.{Lengths, trail_of};
-ghost use Rattle.vsids.specs.Vsids.{vsids_of};
-ghost use Rattle.vmtf.specs.Vmtf.{vmtf_of, Vars};
+ghost use Rattle.trail.specs.Memory as trail;
+ghost use Rattle.trail.specs.Memory.{trail_in, Sized};
+ghost use Rattle.vsids.specs.Memory as vsids;
+ghost use Rattle.vsids.specs.Memory.{vsids_in};
+ghost use Rattle.vmtf.specs.Vmtf as vmtf;
+ghost use Rattle.vmtf.specs.Vmtf.{vmtf_in, Vars};
 ghost use Rattle.saved_state.specs.Said.{trail_from, heap_from, list_from};
 ghost use Rattle.saved_state.specs.Loops.{Codes};
 
 use crate::loading::{
-    doubles, links, open_levels, pad, positions, set_values, stamps, store, switches,
+    doubles, links, open_levels, pad, positions, set_values, stamps, store, switches, variable,
 };
 use activity::Step;
 use forms::text::double;
-use lit::NONE;
-use trail::TrailState;
-use vmtf::VmtfState;
-use vsids::VsidsState;
+use trail::{Trail, TrailState};
+use vmtf::{Vmtf, VmtfState};
+use vsids::{Vsids, VsidsState};
 
 // The trail of the k codes in its front, with their levels and reasons.
-pub fn set_trail(
-    k: usize,
-    curr: u32,
-    level_row: &[u32],
-    reason_row: &[u32],
-    values: &mut [u8],
-    levels: &mut [u32],
-    reasons: &mut [u32],
-    trail: &mut [u32],
-    opened: &mut [u32],
-) -> TrailState
-    requires lengths { Lengths (length values.old) values.old levels.old reasons.old trail.old opened.old × (length values.old ≤ none) }
-    requires k_in_bounds { (k ≤ length values.old) × Codes (length values.old) (take k trail.old) × (length level_row.now ≡ k) × (length reason_row.now ≡ k) }
-    ensures { let after = trail_of values.new levels.new reasons.new trail.new opened.new result in
-        after ≡ trail_from (length values.old) (take k trail.old) level_row.now reason_row.now curr }
+pub fn set_trail(t: &mut Trail<'_>, k: usize, curr: u32, level_row: &[u32], reason_row: &[u32])
+    requires lengths { Sized (length t.old.values.now) (trail_in t.old) × (length t.old.values.now ≤ none) }
+    requires k_in_bounds { (k ≤ length t.old.values.now) × Codes (length t.old.values.now) (take k t.old.codes.now) × (length level_row.now ≡ k) × (length reason_row.now ≡ k) }
+    ensures set { trail_in t.new ≡ trail_from (length t.old.values.now) (take k t.old.codes.now) level_row.now reason_row.now curr }
+    ensures same_slices { trail.SameSlices t.old t.new }
+    ensures same_lengths { Sized (length t.old.values.now) (trail_in t.new) }
 {
-    set_values(&trail[..k], values);
-    store(&trail[..k], level_row, levels);
-    store(&trail[..k], reason_row, reasons);
-    let level = open_levels(level_row, opened);
-    pad(trail, k);
-    TrailState {
+    let values: &mut [u8] = t.values;
+    let levels: &mut [u32] = t.levels;
+    let reasons: &mut [u32] = t.reasons;
+    let codes: &mut [u32] = t.codes;
+    set_values(&codes[..k], values);
+    store(&codes[..k], level_row, levels);
+    store(&codes[..k], reason_row, reasons);
+    pad(codes, k);
+    let level = open_levels(level_row, t.opened);
+    t.at = TrailState {
         len: k as u32,
-        level: level,
+        level,
         curr_i: curr,
-    }
+    };
 }
 
 // The heap of the k members in its front, with the activities' bits and the switches.
-pub fn set_heap(
-    k: usize,
-    bits: &[u64],
-    switch_row: &[u32],
-    inc: u64,
-    decay: u64,
-    activity: &mut [f64],
-    heap: &mut [u32],
-    indices: &mut [u32],
-    decision: &mut [u8],
-) -> VsidsState
-    requires activity_len { (length activity.old ≡ length heap.old) × (length indices.old ≡ length heap.old) × (length decision.old ≡ length heap.old) × (length heap.old ≤ none) }
-    requires k_in_bounds { (k ≤ length heap.old) × Vars (length heap.old) (take k heap.old) × (length bits.now ≡ length heap.old) × (length switch_row.now ≡ length heap.old) }
+pub fn set_heap(h: &mut Vsids<'_>, k: usize, bits: &[u64], switch_row: &[u32], inc: u64, decay: u64)
+    requires activity_len { (length h.old.activity.now ≡ length h.old.heap.now) × (length h.old.indices.now ≡ length h.old.heap.now) × (length h.old.decision.now ≡ length h.old.heap.now) × (length h.old.heap.now ≤ none) }
+    requires k_in_bounds { (k ≤ length h.old.heap.now) × Vars (length h.old.heap.now) (take k h.old.heap.now) × (length bits.now ≡ length h.old.heap.now) × (length switch_row.now ≡ length h.old.heap.now) }
     requires by_index { (v : ℕ) → v < length switch_row.now → get_or switch_row.now v 0 < 256 }
-    ensures { let after = vsids_of activity.new heap.new indices.new decision.new result in
-        after ≡ heap_from (length heap.old) (take k heap.old) bits.now switch_row.now inc decay }
+    ensures set { vsids_in h.new ≡ heap_from (length h.old.heap.now) (take k h.old.heap.now) bits.now switch_row.now inc decay }
+    ensures same_slices { vsids.SameSlices h.old h.new }
+    ensures same_lengths { (length h.new.activity.now ≡ length h.old.heap.now) × (length h.new.heap.now ≡ length h.old.heap.now) × (length h.new.indices.now ≡ length h.old.heap.now) × (length h.new.decision.now ≡ length h.old.heap.now) }
 {
-    doubles(bits, activity);
-    switches(switch_row, decision);
+    doubles(bits, h.activity);
+    switches(switch_row, h.decision);
+    let heap: &mut [u32] = h.heap;
+    let indices: &mut [u32] = h.indices;
     positions(&heap[..k], indices);
     pad(heap, k);
-    VsidsState {
+    h.at = VsidsState {
         len: k as u32,
         step: Step {
             inc: double(inc),
             decay: double(decay),
         },
-    }
-}
-
-// The first variable of an order, or NONE.
-fn front(order: &[u32]) -> u32
-    ensures { result ≡ get_or order.now 0 none }
-{
-    if order.len() == 0 {
-        return NONE;
-    }
-    order[0]
+    };
 }
 
 // The list in this order, with these stamps.
-pub fn set_list(
-    order: &[u32],
-    stamp_row: &[u64],
-    timestamp: u64,
-    search: u32,
-    next: &mut [u32],
-    prev: &mut [u32],
-    ts: &mut [u64],
-) -> VmtfState
-    requires { (length prev.old ≡ length next.old) × (length ts.old ≡ length next.old) × Vars (length next.old) order.now × (length stamp_row.now ≡ length order.now) }
-    ensures { let after = vmtf_of next.new prev.new ts.new result in
-        after ≡ list_from (length next.old) order.now stamp_row.now timestamp search }
+pub fn set_list(list: &mut Vmtf<'_>, order: &[u32], stamp_row: &[u64], timestamp: u64, search: u32)
+    requires { (length list.old.prev.now ≡ length list.old.next.now) × (length list.old.ts.now ≡ length list.old.next.now) × Vars (length list.old.next.now) order.now × (length stamp_row.now ≡ length order.now) }
+    ensures set { vmtf_in list.new ≡ list_from (length list.old.next.now) order.now stamp_row.now timestamp search }
+    ensures same_slices { vmtf.SameSlices list.old list.new }
+    ensures same_lengths { (length list.new.next.now ≡ length list.old.next.now) × (length list.new.prev.now ≡ length list.old.next.now) × (length list.new.ts.now ≡ length list.old.next.now) }
 {
-    links(order, next, prev);
-    stamps(order, stamp_row, ts);
-    VmtfState {
-        start: front(order),
-        search: search,
-        timestamp: timestamp,
-    }
+    links(order, list.next, list.prev);
+    stamps(order, stamp_row, list.ts);
+    list.at = VmtfState {
+        start: variable(order, 0),
+        search,
+        timestamp,
+    };
 }

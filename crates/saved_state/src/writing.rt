@@ -11,10 +11,8 @@ pub fn along(codes: &[u32], table: &[u32], out: &mut [u32])
     requires { (length out.old ≡ length codes.now) × Codes (length table.now) codes.now }
     ensures { out.new ≡ spec.along codes.now table.now }
 {
-    let mut i = 0;
-    while i < codes.len() {
-        out[i] = table[(codes[i] / 2) as usize];
-        i += 1;
+    for (i, code) in codes.iter().enumerate() {
+        out[i] = table[lit::index(*code) as usize];
     }
 }
 
@@ -24,11 +22,9 @@ pub fn order_of(next: &[u32], start: u32, out: &mut [u32])
     ensures { out.new ≡ from next.now (length next.now) start }
 {
     let mut curr = start;
-    let mut i = 0;
-    while i < out.len() {
-        out[i] = curr;
+    for place in out.iter_mut() {
+        *place = curr;
         curr = next[curr as usize];
-        i += 1;
     }
 }
 
@@ -37,10 +33,8 @@ pub fn stamps_of(order: &[u32], ts: &[u64], out: &mut [u64])
     requires { (length out.old ≡ length order.now) × Vars (length ts.now) order.now }
     ensures { out.new ≡ map (λ v. get_or ts.now v 0) order.now }
 {
-    let mut i = 0;
-    while i < order.len() {
-        out[i] = ts[order[i] as usize];
-        i += 1;
+    for (i, v) in order.iter().enumerate() {
+        out[i] = ts[*v as usize];
     }
 }
 
@@ -49,10 +43,8 @@ pub fn widened(switches: &[u8], out: &mut [u32])
     requires { length out.old ≡ length switches.now }
     ensures { out.new ≡ switches.now }
 {
-    let mut i = 0;
-    while i < switches.len() {
-        out[i] = switches[i] as u32;
-        i += 1;
+    for (i, switch) in switches.iter().enumerate() {
+        out[i] = *switch as u32;
     }
 }
 
@@ -62,9 +54,7 @@ pub fn patterns(activity: &[f64], out: &mut [u64])
     requires by_index { (v : ℕ) → v < length activity.now → T (not (is_nan (get_or activity.now v nan))) }
     ensures { out.new ≡ map (to_bits binary64) activity.now }
 {
-    let mut i = 0;
-    while i < activity.len() {
-        out[i] = f64::to_bits(activity[i]);
-        i += 1;
+    for (i, a) in activity.iter().enumerate() {
+        out[i] = a.to_bits();
     }
 }

@@ -1,5 +1,6 @@
 -- Reading a line of a saved text byte by byte: the numbers so far, and that a line which stands there begins with them. Assumes nothing.
-use Rattle.std.specs.Prelude.{ℕ, suc, ◌+◌, ◌-◌, ◌<◌, ◌≤◌, ◌^◌, ◌≡◌, true, false, leb, length, get_or, take, drop, set}
+use Rattle.std.specs.Prelude.{ℕ, suc, ◌+◌, ◌-◌, ◌<◌, ◌≤◌, ◌^◌, ◌≡◌, true, false, leb, length, get_or, take, drop, set, max, Some, None}
+use Rattle.std.specs.Prelude as code
 use Rattle.std.proofs.Math.Path.{refl}
 use Rattle.std.proofs.Common.{sym, ap, ◌∙◌, arith, add-one, ne_eqb, length-append, length-drop, length-set, take-append-drop, get_or-drop, take-suc-set, drop-drop, length-take-le}
 use Rattle.std.proofs.Math.Logic.{by_cases}
@@ -19,17 +20,16 @@ use Rattle.forms.specs.TextRead.{field_of}
 use Rattle.forms.specs.Told.{field_is}
 use Rattle.forms.specs.Reading.{digit_run, run, run_length}
 use Rattle.forms.specs.Spelling.{Whole, behind, hex, reason_text}
-use Rattle.forms.specs.declared.text.Field as field
-use Rattle.forms.specs.declared.text.Field.TheVariants as a_field
+use Rattle.forms.specs.declared.text.Field.{Field}
 use Rattle.saved_text.specs.declared.cursor.Numbers as numbers
-use Rattle.saved_text.specs.declared.cursor.Row.TheVariants as a_row
 use Rattle.saved_text.specs.Saved.{Kind, up_to, bits, reason, Fits, field_text}
 use Rattle.saved_text.specs.Reading.{field_in}
 use Rattle.saved_text.specs.Fields.{Sound, a_field}
-use Rattle.saved_text.specs.Greatest.{greatest, higher, greatest_more}
+use Rattle.saved_text.specs.Greatest.{greatest, greatest_more}
 use Rattle.saved_text.specs.Writing.{texts_more}
 use Rattle.saved_text.specs.Length.{bits_length}
-use Rattle.saved_text.specs.Cursor.{Ends, FieldRead, Small, row_text, numbers_of, RowIs, RowRead}
+use Rattle.saved_text.specs.Cursor.{Ends, FieldRead, Small, numbers_of, RowIs, RowRead}
+use Rattle.saved_text.specs.Puts.{row_text}
 
 -- ---- bytes at a place of a text
 
@@ -79,7 +79,8 @@ module _ (k : Kind) (known : Sound k) (text : List ℕ) (at n : ℕ) (h : n ≤ 
     (ends : (v : ℕ) (rest : List ℕ) → Fits k v → Ends rest → drop at text ≡ field_text k v ++ rest → length (field_text k v) ≡ n) where
   field_read : FieldRead k text at (field_of (at + n) (field_in k (take n (drop at text))))
   field_read = record {
-    sound = λ v end e.
+    sound = λ r e.
+        let v = r.value in
         let f = field_is (field_in k (take n (drop at text))) (at + n) e in
         let s = (a_field k known).said (take n (drop at text)) v f.0 in
         let long : length (field_text k v) ≡ n = sym (ap length s.0) ∙ length-take-le n (drop at text) h in
@@ -116,29 +117,28 @@ module _ (text : List ℕ) (at : ℕ) where
       let sixteen : at + 16 - at ≡ 16 = omega arith in
       rw (← e, sixteen) (field_read bits tt text at 16 (omega (arith, length-drop at text)) (λ v rest fits ends e. bits_length 16 v))
 
-  pub bits_short : length text - at < 16 → FieldRead bits text at a_field.Bad
+  pub bits_short : length text - at < 16 → FieldRead bits text at None
   bits_short h = record {
-    sound = λ v end e. absurd (let z : ◌≡◌ {A = ℕ} 0 1 = cc in omega arith);
+    sound = λ f e. absurd (let z : ◌≡◌ {A = ℕ} 0 1 = cc in omega arith);
     complete = λ v rest fits ends e. absurd (omega (arith, bits_length 16 v, ap length e, length-append (hex 16 v) rest, length-drop at text));
   }
 
   -- the dash, or digits
-  pub dash_field : at < length text → get_or text at 0 ≡ dash → FieldRead reason text at (a_field.Is NONE (at + 1))
+  pub dash_field : at < length text → get_or text at 0 ≡ dash → FieldRead reason text at (Some (record { value = NONE; end = at + 1 }))
   dash_field h d = record {
-    sound = λ v end e. (let same : v ≡ NONE = cc in
-        let behind : end ≡ at + 1 = cc in
-        (omega arith, omega arith, omega arith, rw (behind, none_text v same) (next text at dash h d)));
+    sound = λ f e. (let same : f ≡ record { value = NONE; end = at + 1 } = cc in
+        rw same (omega arith, omega arith, omega arith, rw (none_text NONE refl) (next text at dash h d)));
     complete = λ v rest fits ends e. by_reason v fits (λ z. rw (none_text v z, z)) (λ l. absurd (undashed (digits_by 20 v) rest (digits_all 20 v) (digits_some 19 v) (sym (next text at dash h d) ∙ e ∙ rw (some_text v l))));
   }
 
-  pub reason_field : {r : field.Field} → (at < length text → get_or text at 0 ≡ dash → ⊥) → FieldRead (up_to (NONE - 1)) text at r → FieldRead reason text at r
+  pub reason_field : {r : code.Option Field} → (at < length text → get_or text at 0 ≡ dash → ⊥) → FieldRead (up_to (NONE - 1)) text at r → FieldRead reason text at r
   reason_field n f = record {
-    sound = λ v end e. (let s = f.sound v end e in (omega (arith, s.0), s.1, s.2, rw (some_text v s.0) s.3));
+    sound = λ r e. (let s = f.sound r e in (omega (arith, s.0), s.1, s.2, rw (some_text r.value s.0) s.3));
     complete = λ v rest fits ends e. by_reason v fits (λ z. let d = first text at dash rest (e ∙ rw (none_text v z)) in absurd (n d.0 d.1)) (λ l. rw (some_text v l) (f.complete v rest l ends (rw (some_text v l) at e)));
   }
 
-pub read_small : {k : Kind} {text : List ℕ} {at : ℕ} {r : field.Field} → ((v : ℕ) → Fits k v → Whole v) → FieldRead k text at r → FieldRead k text at r × Small r
-read_small h f = (f, λ v end e. h v (f.sound v end e).0)
+pub read_small : {k : Kind} {text : List ℕ} {at : ℕ} {r : code.Option Field} → ((v : ℕ) → Fits k v → Whole v) → FieldRead k text at r → FieldRead k text at r × Small r
+read_small h f = (f, λ r e. h r.value (f.sound r e).0)
 
 each_snoc : (P : ℕ → Type 0) (vs : List ℕ) (v : ℕ) → Each P vs → P v → Each P (vs ++ (v ∷ []))
 each_snoc P [] v h p = (p, tt)
@@ -167,18 +167,18 @@ unfolding behind
 on_ends k [] rest = omega arith
 on_ends k (v ∷ vs) rest = omega arith
 
-no_field : {k : Kind} {text : List ℕ} {at : ℕ} → FieldRead k text at a_field.Bad → (v : ℕ) (rest : List ℕ) → Fits k v → Ends rest → drop at text ≡ field_text k v ++ rest → ⊥
+no_field : {k : Kind} {text : List ℕ} {at : ℕ} → FieldRead k text at None → (v : ℕ) (rest : List ℕ) → Fits k v → Ends rest → drop at text ≡ field_text k v ++ rest → ⊥
 no_field f v rest h e d = let bad = f.complete v rest h e d in let z : ◌≡◌ {A = ℕ} 0 1 = cc in omega arith
 
 module _ (letter : ℕ) (k : Kind) (text : List ℕ) (at : ℕ) (out : List ℕ) where
-  no_row : ((vs rest : List ℕ) → Each (Fits k) vs → drop at text ≡ row_text letter k vs ++ rest → ⊥) → RowRead letter k text at a_row.Bad out
+  no_row : ((vs rest : List ℕ) → Each (Fits k) vs → drop at text ≡ row_text letter k vs ++ rest → ⊥) → RowRead letter k text at None out
   no_row never = record { sound = λ n e. absurd (let z : ◌≡◌ {A = ℕ} 0 1 = cc in omega arith); complete = λ vs rest h e. absurd (never vs rest h e) }
 
   row_on : (vs rest : List ℕ) → row_text letter k vs ++ rest ≡ letter ∷ (texts k vs ++ newline ∷ rest)
   row_on vs rest = ap (λ (l : List ℕ). letter ∷ l) (append_snoc (texts k vs) newline rest)
 
   -- another letter
-  pub row_other : (at < length text → get_or text at 0 ≡ letter → ⊥) → RowRead letter k text at a_row.Bad out
+  pub row_other : (at < length text → get_or text at 0 ≡ letter → ⊥) → RowRead letter k text at None out
   row_other n = no_row (λ vs rest h e. let f = first text at letter _ (e ∙ row_on vs rest) in n f.0 f.1)
 
   pub so_far_none : at < length text → get_or text at 0 ≡ letter → SoFar letter k text at out 0 0 (at + 1)
@@ -204,7 +204,7 @@ module _ (letter : ℕ) (k : Kind) (text : List ℕ) (at : ℕ) (out : List ℕ)
       stuck [] rest e = let f = first text i newline _ e in l f.0 f.1
       stuck (v ∷ more) rest e = let f = first text i tab _ e in t f.0 f.1
 
-      pub row_stuck : RowRead letter k text at a_row.Bad out
+      pub row_stuck : RowRead letter k text at None out
       row_stuck = no_row (λ vs rest h e. let g = s.goes vs rest h e in stuck g.0 rest g.3)
 
     -- with a newline it ends
@@ -222,7 +222,7 @@ module _ (letter : ℕ) (k : Kind) (text : List ℕ) (at : ℕ) (out : List ℕ)
           let behind : i + 1 ≡ at + length (row_text letter k s.done) = omega (arith, s.place, length-append (texts k s.done) (newline ∷ [])) in
           rw (s.count, s.highest, behind)
 
-      pub row_ends : RowRead letter k text at (a_row.Is (record { count = n; greatest = top; behind = i + 1 })) out
+      pub row_ends : RowRead letter k text at (Some (record { count = n; greatest = top; behind = i + 1 })) out
       row_ends = record {
         sound = λ m d. (let same : m ≡ record { count = n; greatest = top; behind = i + 1 } = cc in
             rw same (record {
@@ -234,12 +234,12 @@ module _ (letter : ℕ) (k : Kind) (text : List ℕ) (at : ℕ) (out : List ℕ)
               only = all_done;
               held = rw s.count s.held;
             }));
-        complete = λ vs rest fits d. rw (all_done vs rest fits d) (ap a_row.Is last);
+        complete = λ vs rest fits d. rw (all_done vs rest fits d) (ap Some last);
       }
 
     -- and with a tab a field comes
     module _ (h : i < length text) (t : get_or text i 0 ≡ tab) where
-      record Field (more rest : List ℕ) : Type 0 where
+      record Next (more rest : List ℕ) : Type 0 where
         v : ℕ
         others : List ℕ
         is : more ≡ v ∷ others
@@ -247,21 +247,21 @@ module _ (letter : ℕ) (k : Kind) (text : List ℕ) (at : ℕ) (out : List ℕ)
         fit : Each (Fits k) others
         there : drop (i + 1) text ≡ field_text k v ++ (texts k others ++ newline ∷ rest)
 
-      a_next : (more rest : List ℕ) → Each (Fits k) more → drop i text ≡ texts k more ++ newline ∷ rest → Field more rest
+      a_next : (more rest : List ℕ) → Each (Fits k) more → drop i text ≡ texts k more ++ newline ∷ rest → Next more rest
       unfolding behind
       a_next [] rest f e = differ tab newline (λ z. omega arith) (sym (next text i tab h t) ∙ e)
       a_next (v ∷ more) rest f e = record { v = v; others = more; is = refl; fits = f.0; fit = f.1; there = same_tail (sym (next text i tab h t) ∙ e) ∙ append_assoc (field_text k v) (texts k more) (newline ∷ rest) }
 
-      pub row_unread : FieldRead k text (i + 1) a_field.Bad → RowRead letter k text at a_row.Bad out
+      pub row_unread : FieldRead k text (i + 1) None → RowRead letter k text at None out
       row_unread f = no_row (λ vs rest fits e.
           let g = s.goes vs rest fits e in
           let a = a_next g.0 rest g.2 g.3 in
           no_field f a.v (texts k a.others ++ newline ∷ rest) a.fits (on_ends k a.others rest) a.there)
 
-      module _ (v end : ℕ) (f : FieldRead k text (i + 1) (a_field.Is v end)) where
-        pub so_far_next : SoFar letter k text at (set out n v) (n + 1) (higher top v) end
+      module _ (v end : ℕ) (f : FieldRead k text (i + 1) (Some (record { value = v; end = end }))) where
+        pub so_far_next : SoFar letter k text at (set out n v) (n + 1) (max v top) end
         so_far_next =
-            let was = f.sound v end refl in
+            let was = f.sound _ refl in
             let all = s.done ++ (v ∷ []) in
             let text_is : drop at text ≡ (letter ∷ texts k all) ++ drop end text = s.text_is ∙ ap (λ (l : List ℕ). letter ∷ l) (rw (next text i tab h t, was.3, texts_more k s.done v) (sym (append_assoc (texts k s.done) (tab ∷ field_text k v) (drop end text)))) in
             record {
@@ -278,8 +278,9 @@ module _ (letter : ℕ) (k : Kind) (text : List ℕ) (at : ℕ) (out : List ℕ)
                   let g = s.goes vs rest fits e in
                   let a = a_next g.0 rest g.2 g.3 in
                   let is = f.complete a.v (texts k a.others ++ newline ∷ rest) a.fits (on_ends k a.others rest) a.there in
-                  let same : a.v ≡ v = cc in
-                  let behind : end ≡ i + 1 + length (field_text k a.v) = cc in
+                  let both : ◌≡◌ {A = Field} (record { value = v; end = end }) (record { value = a.v; end = i + 1 + length (field_text k a.v) }) = cc in
+                  let same : a.v ≡ v = ap (λ (f : Field). f.value) (sym both) in
+                  let behind : end ≡ i + 1 + length (field_text k a.v) = ap (λ (f : Field). f.end) both in
                   (a.others, g.1 ∙ ap (λ (l : List ℕ). s.done ++ l) (a.is ∙ ap (λ (w : ℕ). w ∷ a.others) same) ∙ sym (append_snoc s.done v a.others), a.fit, rw behind (behind_it text (i + 1) (field_text k a.v) (texts k a.others ++ newline ∷ rest) a.there));
             }
 

@@ -1,7 +1,8 @@
 -- Lines of a saved text one behind another, as code goes: rows behind rows, clause behind clause, and the whole. Assumes nothing.
-use Rattle.std.specs.Prelude.{ℕ, suc, ◌+◌, ◌-◌, ◌<◌, ◌≤◌, ◌≡◌, Bool, true, false, cond, eqb, leb, set}
+use Rattle.std.specs.Prelude.{ℕ, suc, ◌+◌, ◌-◌, ◌<◌, ◌≤◌, ◌≡◌, Bool, true, false, cond, eqb, leb, min, max, set, Some, None}
+use Rattle.std.specs.Prelude as code
 use Rattle.std.proofs.Math.Path.{refl, sym, ap}
-use Rattle.std.proofs.Common.{subst, ◌∙◌, arith, add-one, eqb-true, le-leb, leb-true, length-take, length-set, drop_of_length-le, take-suc-set, length-take-le}
+use Rattle.std.proofs.Common.{subst, ◌∙◌, arith, add-one, eqb-true, le-leb, length-take, length-set, drop_of_length-le, take-suc-set, length-take-le}
 use Rattle.std.proofs.Math.Option.{Option, none, some}
 use mathlib.Core.List.{List, [], ◌∷◌, ◌++◌, flatten, map, append-nil, append_assoc}
 use Rattle.std.proofs.Math.ListN.{length, get_or, take, drop, length-append, length-drop}
@@ -12,31 +13,27 @@ use Rattle.laws.specs.Parts.{second_at}
 use Rattle.forms.specs.Letters.{clause_letter}
 use Rattle.forms.specs.Text.{newline, occurs, find}
 use Rattle.forms.specs.Forms.{Mode, vsids, vmtf, Opening, first_in}
-use Rattle.forms.specs.Read.{in_mode, first_of}
-use Rattle.forms.specs.declared.First as first_read
-use Rattle.forms.specs.declared.First.TheVariants as a_first
+use Rattle.forms.specs.Read.{mode_of, first_of}
+use Rattle.forms.specs.declared.Opening as code-opening
+use Rattle.forms.specs.declared.Mode as code-mode
+use Rattle.forms.specs.declared.Mode.TheVariants as the-modes
 use Rattle.forms.specs.Spelling.{Without, Whole, ended, first_line}
 use Rattle.forms.specs.Words.{never, same_some}
 use Rattle.saved_text.specs.declared.cursor.Numbers as numbers
-use Rattle.saved_text.specs.declared.cursor.Row.TheVariants as a_row
-use Rattle.saved_text.specs.declared.form.Past as past
-use Rattle.saved_text.specs.declared.form.Past.TheVariants as a-place
 use Rattle.saved_text.specs.declared.form.Clauses.{Clauses}
 use Rattle.saved_text.specs.declared.form.TrailRows.{TrailRows}
-use Rattle.saved_text.specs.declared.form.Counts as counts
-use Rattle.saved_text.specs.declared.form.Section as section
-use Rattle.saved_text.specs.declared.form.Section.TheVariants as a-section
-use Rattle.saved_text.specs.declared.form.Formed as formed
-use Rattle.saved_text.specs.declared.form.Formed.TheVariants as a-form
-use Rattle.saved_text.specs.Saved.{whole, Form, Counts, chooser_forms, clause_form, trail_form, Saved, Row, Rows, WellFormed, forms_of, row_line, row_lines, text_of}
+use Rattle.saved_text.specs.declared.form.Counts.{Counts}
+use Rattle.saved_text.specs.Saved as saved
+use Rattle.saved_text.specs.Saved.{whole, Form, chooser_forms, clause_form, trail_form, Saved, Row, Rows, WellFormed, forms_of, row_line, row_lines, text_of}
 use Rattle.saved_text.specs.Reading.{read_text}
 use Rattle.saved_text.specs.Fields as fields
 use Rattle.saved_text.specs.Read.{read_said}
 use Rattle.saved_text.specs.Writing.{ended_append}
-use Rattle.saved_text.specs.Greatest.{greatest, higher, greatest_append}
-use Rattle.saved_text.specs.Cursor.{row_text, numbers_of, RowIs, RowRead}
+use Rattle.saved_text.specs.Greatest.{greatest, greatest_append}
+use Rattle.saved_text.specs.Puts.{row_text}
+use Rattle.saved_text.specs.Cursor.{numbers_of, RowIs, RowRead}
 use Rattle.saved_text.specs.CursorLaws.{behind_it, place_within, next, first, row_long}
-use Rattle.saved_text.specs.Form.{rows_text, Stand, Front, Fronts, PastRows, HeadRead, trail_rest, opened, behind_trail, state_forms, StateRead, clauses_text, clauses_of, ends_from, ClausesHeld, Clauseless, SectionRead, OpensWith, Told, counts_with, counts_from, behind_text, BehindRead, formed_of, Placed}
+use Rattle.saved_text.specs.Form.{rows_text, Stand, Front, Fronts, PastRows, HeadRead, trail_rest, the_mode, opens, behind_trail, state_forms, StateRead, clauses_text, clauses_of, ends_from, ClausesHeld, Clauseless, SectionRead, OpensWith, Told, counts_with, counts_from, behind_text, BehindRead, formed_of, Placed}
 
 -- ---- rows behind rows
 
@@ -117,7 +114,7 @@ module _ {fs gs : List Form} {text : List ℕ} {at p : ℕ} where
         s.is ∙ rw (front, back);
   }
 
-  pub past_then : {r : past.Past} {os ps : List (List ℕ)} → length os ≡ length fs → PastRows fs text at (a-place.Is p) os → PastRows gs text p r ps → PastRows (fs ++ gs) text at r (os ++ ps)
+  pub past_then : {r : code.Option ℕ} {os ps : List (List ℕ)} → length os ≡ length fs → PastRows fs text at (Some p) os → PastRows gs text p r ps → PastRows (fs ++ gs) text at r (os ++ ps)
   past_then {r} {os} {ps} long f g = record {
     sound = λ q e. (let a = f.sound p refl in let b = g.sound q e in (a.0 ++ b.0, stand_then a.1 b.1));
     complete = λ rows rest h e.
@@ -129,14 +126,14 @@ module _ {fs gs : List Form} {text : List ℕ} {at p : ℕ} where
         let place : p ≡ at + length (rows_text fs s.front) = cc in
         let end : p + length (rows_text gs s.back) ≡ at + length (rows_text (fs ++ gs) rows) = omega (arith, ap length s.text_is, length-append (rows_text fs s.front) (rows_text gs s.back)) in
         let more = g.complete s.back rest s.backs (ap (λ (k : ℕ). drop k text) place ∙ behind_it text at (rows_text fs s.front) behind here) in
-        (more.0 ∙ ap a-place.Is end, subst (Fronts (os ++ ps)) (sym s.is) (fronts_both fs os ps s.front s.back long s.fronts first.1 more.1));
+        (more.0 ∙ ap Some end, subst (Fronts (os ++ ps)) (sym s.is) (fronts_both fs os ps s.front s.back long s.fronts first.1 more.1));
   }
 
 -- where none stand
-no_rows : (fs : List Form) (text : List ℕ) (at : ℕ) (outs : List (List ℕ)) → ((rows : List (List ℕ)) (rest : List ℕ) → Rows fs rows → drop at text ≡ rows_text fs rows ++ rest → ⊥) → PastRows fs text at a-place.Bad outs
+no_rows : (fs : List Form) (text : List ℕ) (at : ℕ) (outs : List (List ℕ)) → ((rows : List (List ℕ)) (rest : List ℕ) → Rows fs rows → drop at text ≡ rows_text fs rows ++ rest → ⊥) → PastRows fs text at None outs
 no_rows fs text at outs n = record { sound = λ q e. absurd (let z : ◌≡◌ {A = ℕ} 0 1 = cc in omega arith); complete = λ rows rest h e. absurd (n rows rest h e) }
 
-pub past_bad : {fs : List Form} (gs : List Form) {text : List ℕ} {at : ℕ} {os : List (List ℕ)} (outs : List (List ℕ)) → PastRows fs text at a-place.Bad os → PastRows (fs ++ gs) text at a-place.Bad outs
+pub past_bad : {fs : List Form} (gs : List Form) {text : List ℕ} {at : ℕ} {os : List (List ℕ)} (outs : List (List ℕ)) → PastRows fs text at None os → PastRows (fs ++ gs) text at None outs
 past_bad {fs} gs {text} {at} outs f = no_rows (fs ++ gs) text at outs (λ rows rest h e.
     let s = rows_parts gs fs rows h in
     let first = (f.complete s.front (rows_text gs s.back ++ rest) s.fronts (parts_at gs s text at rest e)).0 in
@@ -158,19 +155,19 @@ module _ (f : Form) where
   one_text vs = refl
 
   module _ {text : List ℕ} {at : ℕ} {out : List ℕ} where
-    pub row_stands : {n : numbers.Numbers} (i : RowIs f.letter f.kind text at out n) → Counts f.count n.count → Stand (f ∷ []) text at n.behind (i.numbers ∷ [])
+    pub row_stands : {n : numbers.Numbers} (i : RowIs f.letter f.kind text at out n) → saved.Counts f.count n.count → Stand (f ∷ []) text at n.behind (i.numbers ∷ [])
     unfolding Rows row_lines ended
     row_stands {n} i counts =
         let same : n.count ≡ length i.numbers = ap (λ (m : numbers.Numbers). m.count) i.are in
         record { are = ((rw same at counts, i.fits), tt); within = i.within; text_is = i.text_is; only = λ others rest h e. one_row text at others rest h e (λ vs is fits there. is ∙ ap (λ (l : List ℕ). l ∷ []) (i.only vs rest fits.1 there)) }
 
-    pub row_bad : RowRead f.letter f.kind text at a_row.Bad out → PastRows (f ∷ []) text at a-place.Bad (out ∷ [])
+    pub row_bad : RowRead f.letter f.kind text at None out → PastRows (f ∷ []) text at None (out ∷ [])
     row_bad r = no_rows (f ∷ []) text at (out ∷ []) (λ rows rest h e. one_row text at rows rest h e (λ vs is fits there.
         let same = r.complete vs rest fits.1 there in
         let z : ◌≡◌ {A = ℕ} 0 1 = cc in
         omega arith))
 
-    module _ {n : numbers.Numbers} (r : RowRead f.letter f.kind text at (a_row.Is n) out) where
+    module _ {n : numbers.Numbers} (r : RowRead f.letter f.kind text at (Some n) out) where
       -- the line that stands there is the one that was read
       row_same : (vs rest : List ℕ) → Row f vs → drop at text ≡ row_text f.letter f.kind vs ++ rest → (n ≡ numbers_of f.letter at f.kind vs) × Front out vs
       row_same vs rest fits there =
@@ -180,19 +177,19 @@ module _ (f : Form) where
           (cc, rw same i.held)
 
       -- with another count of numbers
-      pub row_miscounted : (Counts f.count n.count → ⊥) → PastRows (f ∷ []) text at a-place.Bad (out ∷ [])
+      pub row_miscounted : (saved.Counts f.count n.count → ⊥) → PastRows (f ∷ []) text at None (out ∷ [])
       row_miscounted other = no_rows (f ∷ []) text at (out ∷ []) (λ rows rest h e. one_row text at rows rest h e (λ vs is fits there.
           let same : n.count ≡ length vs = ap (λ (m : numbers.Numbers). m.count) (row_same vs rest fits there).0 in
           other (rw same fits.0)))
 
-      pub row_past : Counts f.count n.count → PastRows (f ∷ []) text at (a-place.Is n.behind) (out ∷ [])
+      pub row_past : saved.Counts f.count n.count → PastRows (f ∷ []) text at (Some n.behind) (out ∷ [])
       unfolding Fronts
       row_past counts = record {
         sound = λ p e. (let i = r.sound n refl in let place : p ≡ n.behind = cc in (i.numbers ∷ [], rw place (row_stands i counts)));
         complete = λ rows rest h e. one_row text at rows rest h e (λ vs is fits there.
             let read = row_same vs rest fits there in
             let same : n.behind ≡ at + length (row_text f.letter f.kind vs) = ap (λ (m : numbers.Numbers). m.behind) read.0 in
-            rw (is, same) (ap (λ (l : List ℕ). a-place.Is (at + length l)) (one_text vs), (read.1, tt)));
+            rw (is, same) (ap (λ (l : List ℕ). Some (at + length l)) (one_text vs), (read.1, tt)));
       }
 
 -- ---- a line whose count says which rows stand behind it
@@ -207,25 +204,25 @@ head_on f gs vs rows rest = ap (λ (l : List ℕ). l ++ rest) (head_text f gs vs
 module _ (f : Form) (more : ℕ → List Form) {text : List ℕ} {at : ℕ} {out : List ℕ} where
   head_none : {count top : ℕ} {outs : List (List ℕ)}
       → ((vs : List ℕ) (rows : List (List ℕ)) (rest : List ℕ) → Row f vs → Rows (more (length vs)) rows → drop at text ≡ row_text f.letter f.kind vs ++ (rows_text (more (length vs)) rows ++ rest) → ⊥)
-      → HeadRead f more text at a-place.Bad count top out outs
+      → HeadRead f more text at None count top out outs
   head_none n = record { sound = λ q e. absurd (let z : ◌≡◌ {A = ℕ} 0 1 = cc in omega arith); complete = λ vs rows rest h k e. absurd (n vs rows rest h k e) }
 
-  pub head_bad : RowRead f.letter f.kind text at a_row.Bad out → HeadRead f more text at a-place.Bad 0 0 out []
+  pub head_bad : RowRead f.letter f.kind text at None out → HeadRead f more text at None 0 0 out []
   head_bad r = head_none (λ vs rows rest h k e.
       let same = r.complete vs (rows_text (more (length vs)) rows ++ rest) h.1 e in
       let z : ◌≡◌ {A = ℕ} 0 1 = cc in
       omega arith)
 
-  module _ {n : numbers.Numbers} (r : RowRead f.letter f.kind text at (a_row.Is n) out) where
-    pub head_miscounted : (Counts f.count n.count → ⊥) → HeadRead f more text at a-place.Bad 0 0 out []
+  module _ {n : numbers.Numbers} (r : RowRead f.letter f.kind text at (Some n) out) where
+    pub head_miscounted : (saved.Counts f.count n.count → ⊥) → HeadRead f more text at None 0 0 out []
     head_miscounted other = head_none (λ vs rows rest h k e.
         let same : n.count ≡ length vs = ap (λ (m : numbers.Numbers). m.count) (row_same f r vs (rows_text (more (length vs)) rows ++ rest) h e).0 in
         other (rw same h.0))
 
     -- what stands behind the line
-    module _ {p : past.Past} {outs : List (List ℕ)} (g : PastRows (more n.count) text n.behind p outs) where
+    module _ {p : code.Option ℕ} {outs : List (List ℕ)} (g : PastRows (more n.count) text n.behind p outs) where
       behind_line : (vs : List ℕ) (rows : List (List ℕ)) (rest : List ℕ) → Row f vs → Rows (more (length vs)) rows → drop at text ≡ row_text f.letter f.kind vs ++ (rows_text (more (length vs)) rows ++ rest)
-          → (p ≡ a-place.Is (at + length (row_text f.letter f.kind vs) + length (rows_text (more (length vs)) rows))) × Fronts outs rows
+          → (p ≡ Some (at + length (row_text f.letter f.kind vs) + length (rows_text (more (length vs)) rows))) × Fronts outs rows
       behind_line vs rows rest h k e =
           let line = row_text f.letter f.kind vs in
           let is = (row_same f r vs (rows_text (more (length vs)) rows ++ rest) h e).0 in
@@ -234,17 +231,17 @@ module _ (f : Form) (more : ℕ → List Form) {text : List ℕ} {at : ℕ} {out
           let same : PastRows (more (length vs)) text (at + length line) p outs = subst (λ (k : ℕ). PastRows (more k) text (at + length line) p outs) count (subst (λ (q : ℕ). PastRows (more n.count) text q p outs) place g) in
           same.complete rows rest k (behind_it text at line (rows_text (more (length vs)) rows ++ rest) e)
 
-    pub head_stopped : {outs : List (List ℕ)} → PastRows (more n.count) text n.behind a-place.Bad outs → HeadRead f more text at a-place.Bad 0 0 out []
+    pub head_stopped : {outs : List (List ℕ)} → PastRows (more n.count) text n.behind None outs → HeadRead f more text at None 0 0 out []
     head_stopped g = head_none (λ vs rows rest h k e.
         let same = (behind_line g vs rows rest h k e).0 in
         let z : ◌≡◌ {A = ℕ} 0 1 = cc in
         omega arith)
 
-    pub head_read : Counts f.count n.count → {k p : ℕ} {outs : List (List ℕ)} → k ≡ n.count → PastRows (more n.count) text n.behind (a-place.Is p) outs → HeadRead f more text at (a-place.Is p) k n.greatest out outs
+    pub head_read : saved.Counts f.count n.count → {k p : ℕ} {outs : List (List ℕ)} → k ≡ n.count → PastRows (more n.count) text n.behind (Some p) outs → HeadRead f more text at (Some p) k n.greatest out outs
     head_read counts {k} {p} {outs} many g = record {
       sound = λ q e. (let i = r.sound n refl in
           let same : n.count ≡ length i.numbers = ap (λ (m : numbers.Numbers). m.count) i.are in
-          let b = (subst (λ (k : ℕ). PastRows (more k) text n.behind (a-place.Is p) outs) same g).sound q e in
+          let b = (subst (λ (k : ℕ). PastRows (more k) text n.behind (Some p) outs) same g).sound q e in
           (i.numbers, b.0, n.behind, row_stands f i counts, b.1));
       complete = λ vs rows rest h k e.
           let is = row_same f r vs (rows_text (more (length vs)) rows ++ rest) h e in
@@ -265,20 +262,20 @@ two (v ∷ (w ∷ [])) e = refl
 two (v ∷ (w ∷ (u ∷ l))) e = absurd (omega arith)
 
 -- where the count says nothing, these are rows
-pub head_past : {f : Form} {gs : List Form} {text : List ℕ} {at : ℕ} {r : past.Past} {count top : ℕ} {out : List ℕ} {outs : List (List ℕ)} → HeadRead f (λ k. gs) text at r count top out outs → PastRows (f ∷ gs) text at r []
+pub head_past : {f : Form} {gs : List Form} {text : List ℕ} {at : ℕ} {r : code.Option ℕ} {count top : ℕ} {out : List ℕ} {outs : List (List ℕ)} → HeadRead f (λ k. gs) text at r count top out outs → PastRows (f ∷ gs) text at r []
 unfolding Rows Fronts
 head_past {f} {gs} {text} {at} {r} h = record {
   sound = λ p e. (let a = h.sound p e in (a.0 ∷ a.1, stand_then a.3 a.4));
   complete = go;
 }
   where
-    go : (rows : List (List ℕ)) (rest : List ℕ) → Rows (f ∷ gs) rows → drop at text ≡ rows_text (f ∷ gs) rows ++ rest → (r ≡ a-place.Is (at + length (rows_text (f ∷ gs) rows))) × Fronts [] rows
+    go : (rows : List (List ℕ)) (rest : List ℕ) → Rows (f ∷ gs) rows → drop at text ≡ rows_text (f ∷ gs) rows ++ rest → (r ≡ Some (at + length (rows_text (f ∷ gs) rows))) × Fronts [] rows
     go [] rest k e = absurd k
     go (vs ∷ rows) rest k e =
         let line = row_text f.letter f.kind vs in
         let done = h.complete vs rows rest k.0 k.1 (e ∙ head_on f gs vs rows rest) in
         let end : at + length line + length (rows_text gs rows) ≡ at + length (rows_text (f ∷ gs) (vs ∷ rows)) = omega (arith, ap length (head_text f gs vs rows), length-append line (rows_text gs rows)) in
-        (done.0 ∙ ap a-place.Is end, tt)
+        (done.0 ∙ ap Some end, tt)
 
 -- ---- the state: the trail's lines, and then the chooser's
 
@@ -287,9 +284,9 @@ choosers_of o = chooser_forms o.mode o.vars
 
 module _ (o : Opening) {text : List ℕ} {at : ℕ} {count top : ℕ} {out : List ℕ} {outs : List (List ℕ)} where
   -- the trail's lines, with what stands behind them
-  module _ {p : past.Past} (t : HeadRead trail_form trail_rest text at p count top out outs) where
+  module _ {p : code.Option ℕ} (t : HeadRead trail_form trail_rest text at p count top out outs) where
     state_parts : (codes : List ℕ) (rows : List (List ℕ)) (rest : List ℕ) → Rows (state_forms o codes) (codes ∷ rows) → drop at text ≡ rows_text (state_forms o codes) (codes ∷ rows) ++ rest
-        → (front : List (List ℕ)) × (back : List (List ℕ)) × (q : ℕ) × (rows ≡ front ++ back) × Rows (choosers_of o) back × (p ≡ a-place.Is q) × (count ≡ length codes) × (top ≡ greatest codes) × Front out codes × Fronts outs front
+        → (front : List (List ℕ)) × (back : List (List ℕ)) × (q : ℕ) × (rows ≡ front ++ back) × Rows (choosers_of o) back × (p ≡ Some q) × (count ≡ length codes) × (top ≡ greatest codes) × Front out codes × Fronts outs front
         × (drop q text ≡ rows_text (choosers_of o) back ++ rest) × (q + length (rows_text (choosers_of o) back) ≡ at + length (rows_text (state_forms o codes) (codes ∷ rows))) × Rows (trail_rest (length codes)) front
     unfolding Rows
     state_parts codes rows rest h e =
@@ -315,7 +312,7 @@ module _ (o : Opening) {text : List ℕ} {at : ℕ} {count top : ℕ} {out : Lis
           s.fronts,
         )
 
-  pub state_bad : HeadRead trail_form trail_rest text at a-place.Bad count top out outs → StateRead o text at a-place.Bad
+  pub state_bad : HeadRead trail_form trail_rest text at None count top out outs → StateRead o text at None
   state_bad t = record {
     sound = λ q e. absurd (let z : ◌≡◌ {A = ℕ} 0 1 = cc in omega arith);
     complete = λ codes rows rest h e. absurd (
@@ -324,14 +321,14 @@ module _ (o : Opening) {text : List ℕ} {at : ℕ} {count top : ℕ} {out : Lis
         omega arith);
   }
 
-  pub state_past : {p : ℕ} → HeadRead trail_form trail_rest text at (a-place.Is p) count top out outs → {r : past.Past} {more : List (List ℕ)} → PastRows (choosers_of o) text p r more → StateRead o text at r
+  pub state_past : {p : ℕ} → HeadRead trail_form trail_rest text at (Some p) count top out outs → {r : code.Option ℕ} {more : List (List ℕ)} → PastRows (choosers_of o) text p r more → StateRead o text at r
   state_past {p} t {r} {more} f = record {
     sound = λ q e. (let a = t.sound p refl in let b = f.sound q e in (a.0, a.1 ++ b.0, stand_then a.3 (stand_then a.4 b.1)));
     complete = λ codes rows rest h e.
         let s = state_parts t codes rows rest h e in
         let same = s.5 in
         let place : p ≡ s.2 = cc in
-        (f.complete s.1 rest s.4 (ap (λ (k : ℕ). drop k text) place ∙ s.10)).0 ∙ ap a-place.Is (ap (λ (k : ℕ). k + length (rows_text (choosers_of o) s.1)) place ∙ s.11);
+        (f.complete s.1 rest s.4 (ap (λ (k : ℕ). drop k text) place ∙ s.10)).0 ∙ ap Some (ap (λ (k : ℕ). k + length (rows_text (choosers_of o) s.1)) place ∙ s.11);
   }
 
 -- ---- the clauses
@@ -382,13 +379,6 @@ put_back l r n h e =
     let same : take n l ++ (r ++ drop (length l - n) (drop n l)) ≡ take n l ++ r = rw none (ap (λ (m : List ℕ). take n l ++ m) (append-nil r)) in
     (same, ap length same ∙ simp (length-append, length-take) (omega (arith, e, length-take (length l - n) (drop n l), length-drop n l)))
 
--- the lower of two counts
-pub least_within : (a b : ℕ) → cond (leb a b) a b ≤ b
-least_within a b = true_or_false (leb a b) (λ t. rw t (leb-true a b t)) (λ f. rw f (omega arith))
-
-pub least_is : (a b : ℕ) → a ≤ b → cond (leb a b) a b ≡ a
-least_is a b h = rw (le-leb a b h)
-
 begins_none : (l bs : List ℕ) → Clauseless l → l ≡ clause_letter ∷ bs → ⊥
 begins_none [] bs h e = omega (arith, ap length e)
 begins_none (b ∷ l) bs h e = h cc
@@ -418,7 +408,7 @@ module _ (text : List ℕ) (from : ℕ) where
       a_next [] rest rows last e = absurd (begins_none rest (drop (at + 1) text) last (sym e ∙ next text at clause_letter h b))
       a_next (c ∷ more) rest rows last e = record { clause = c; others = more; is = refl; row = rows.0; rows = rows.1; there = e ∙ line_on (row_line clause_form c) (clauses_text more) rest }
 
-      pub section_bad : {out : List ℕ} → RowRead clause_letter whole text at a_row.Bad out → (lits' ends' : List ℕ) → SectionRead text from a-section.Bad lits' ends'
+      pub section_bad : {out : List ℕ} → RowRead clause_letter whole text at None out → (lits' ends' : List ℕ) → SectionRead text from None lits' ends'
       section_bad r lits' ends' = record {
         sound = λ c e. absurd (let z : ◌≡◌ {A = ℕ} 0 1 = cc in omega arith);
         complete = λ cs rest rows last e. absurd (
@@ -430,7 +420,7 @@ module _ (text : List ℕ) (from : ℕ) where
       }
 
       -- a clause that was read into what is left of the codes
-      pub section_next : {out : List ℕ} {n : numbers.Numbers} → RowRead clause_letter whole text at (a_row.Is n) out → {g : ℕ} → g ≡ higher top n.greatest → {lits' ends' : List ℕ}
+      pub section_next : {out : List ℕ} {n : numbers.Numbers} → RowRead clause_letter whole text at (Some n) out → {g : ℕ} → g ≡ max n.greatest top → {lits' ends' : List ℕ}
           → length lits' ≡ length lits → (literals ≤ length lits → lits' ≡ take literals lits ++ out) → ends' ≡ cond (leb (literals + n.count) (length lits')) (set ends count (literals + n.count)) ends
           → Clausing text from lits' ends' (count + 1) (literals + n.count) g n.behind
       section_next {out} {n} r {g} new {lits'} {ends'} same_room read-in stored =
@@ -446,7 +436,7 @@ module _ (text : List ℕ) (from : ℕ) where
             few = omega (arith, s.few, row_long i);
             counts = simp length-append (omega (arith, s.counts));
             codes = ap length (flatten_more s.done i.numbers) ∙ simp length-append (omega (arith, s.codes));
-            highest = ap greatest (flatten_more s.done i.numbers) ∙ greatest_append (flatten s.done) i.numbers ∙ rw s.highest (ap (higher top) (sym most)) ∙ sym new;
+            highest = ap greatest (flatten_more s.done i.numbers) ∙ greatest_append (flatten s.done) i.numbers ∙ omega (arith, s.highest, most, new);
             held = λ l. (let room : literals ≤ length lits = omega (arith, same_room) in
                 let front : length (take literals lits) ≡ literals = length-take-le literals lits room in
                 let left : length i.numbers ≤ length out = omega (arith, ap length (read-in room), length-append (take literals lits) out, front) in
@@ -482,7 +472,7 @@ module _ (text : List ℕ) (from : ℕ) where
       all_done : (cs : List (List ℕ)) (rest : List ℕ) → Each (Row clause_form) cs → Clauseless rest → drop from text ≡ clauses_text cs ++ rest → cs ≡ s.done
       all_done cs rest rows last e = let g = s.goes cs rest rows last e in g.1 ∙ rw (nothing_more g.0 rest g.3) (append-nil s.done)
 
-      pub section_ends : SectionRead text from (a-section.Are (record { count = count; literals = literals; greatest = top; behind = at })) lits ends
+      pub section_ends : SectionRead text from (Some (record { count = count; literals = literals; greatest = top; behind = at })) lits ends
       section_ends =
           let those : record { count = count; literals = literals; greatest = top; behind = at } ≡ clauses_of from s.done = rw (s.counts, s.codes, s.highest, ← s.place) in
           record {
@@ -496,7 +486,7 @@ module _ (text : List ℕ) (from : ℕ) where
                   last = clauseless (drop at text) (λ bs e. let f = first text at clause_letter bs e in b f.0 f.1);
                   only = all_done;
                 }));
-            complete = λ cs rest rows last e. rw (all_done cs rest rows last e) (ap a-section.Are those, record { codes_held = rw s.codes s.held; ends_held = rw (s.codes, s.counts) s.ended });
+            complete = λ cs rest rows last e. rw (all_done cs rest rows last e) (ap Some those, record { codes_held = rw s.codes s.held; ends_held = rw (s.codes, s.counts) s.ended });
           }
 
 -- ---- behind the first line: the clauses, and the state up to the end
@@ -507,15 +497,15 @@ unfolding row_lines ended
 trail_clauseless o codes rows rest = λ e. omega arith
 
 module _ (text : List ℕ) (at : ℕ) (h : at ≤ length text) where
-  no_form : (o : Opening) → ((s : Saved) → WellFormed s → s.opening ≡ o → drop at text ≡ behind_text s → ⊥) → BehindRead o text at a-form.Bad
+  no_form : (o : Opening) → ((s : Saved) → WellFormed s → s.opening ≡ o → drop at text ≡ behind_text s → ⊥) → BehindRead o text at None
   no_form o n = record { sound = λ c e. absurd (let z : ◌≡◌ {A = ℕ} 0 1 = cc in omega arith); complete = λ s w q e. absurd (n s w q e) }
 
   -- the clauses of a text that stands there
-  section_of : {r : section.Section} {lits ends : List ℕ} → SectionRead text at r lits ends → (s : Saved) → WellFormed s → drop at text ≡ behind_text s → (r ≡ a-section.Are (clauses_of at s.clauses)) × ClausesHeld s.clauses lits ends
+  section_of : {r : code.Option Clauses} {lits ends : List ℕ} → SectionRead text at r lits ends → (s : Saved) → WellFormed s → drop at text ≡ behind_text s → (r ≡ Some (clauses_of at s.clauses)) × ClausesHeld s.clauses lits ends
   section_of f s w e = f.complete s.clauses (rows_text (state_forms s.opening s.codes) (s.codes ∷ s.rows)) w.clauses (rw append-nil at (trail_clauseless s.opening s.codes s.rows [])) e
 
   -- and its state
-  state_of : {c : Clauses} {r : past.Past} {lits ends : List ℕ} → SectionRead text at (a-section.Are c) lits ends → (s : Saved) → StateRead s.opening text c.behind r → WellFormed s → drop at text ≡ behind_text s → r ≡ a-place.Is (length text)
+  state_of : {c : Clauses} {r : code.Option ℕ} {lits ends : List ℕ} → SectionRead text at (Some c) lits ends → (s : Saved) → StateRead s.opening text c.behind r → WellFormed s → drop at text ≡ behind_text s → r ≡ Some (length text)
   unfolding Rows
   state_of {c} {r} f s g w e =
       let clauses = (section_of f s w e).0 in
@@ -523,24 +513,24 @@ module _ (text : List ℕ) (at : ℕ) (h : at ≤ length text) where
       let place : c.behind ≡ at + length (clauses_text s.clauses) = cc in
       let there : drop c.behind text ≡ state ++ [] = ap (λ (k : ℕ). drop k text) place ∙ behind_it text at (clauses_text s.clauses) state e ∙ sym (append-nil state) in
       let end : c.behind + length state ≡ length text = omega (arith, length-drop at text, ap length e, length-append (clauses_text s.clauses) state) in
-      g.complete s.codes s.rows [] (w.codes, w.rows) there ∙ ap a-place.Is end
+      g.complete s.codes s.rows [] (w.codes, w.rows) there ∙ ap Some end
 
   module _ (o : Opening) where
-    pub behind_none : {lits ends : List ℕ} → SectionRead text at a-section.Bad lits ends → BehindRead o text at a-form.Bad
+    pub behind_none : {lits ends : List ℕ} → SectionRead text at None lits ends → BehindRead o text at None
     behind_none f = no_form o (λ s w q e. let r = (section_of f s w e).0 in let z : ◌≡◌ {A = ℕ} 0 1 = cc in omega arith)
 
-    module _ {c : Clauses} {lits ends : List ℕ} (f : SectionRead text at (a-section.Are c) lits ends) where
-      here : {r : past.Past} → StateRead o text c.behind r → (s : Saved) → WellFormed s → s.opening ≡ o → drop at text ≡ behind_text s → r ≡ a-place.Is (length text)
+    module _ {c : Clauses} {lits ends : List ℕ} (f : SectionRead text at (Some c) lits ends) where
+      here : {r : code.Option ℕ} → StateRead o text c.behind r → (s : Saved) → WellFormed s → s.opening ≡ o → drop at text ≡ behind_text s → r ≡ Some (length text)
       here {r} g s w q e = state_of f s (subst (λ (o : Opening). StateRead o text c.behind r) (sym q) g) w e
 
-      pub behind_bad : StateRead o text c.behind a-place.Bad → BehindRead o text at a-form.Bad
+      pub behind_bad : StateRead o text c.behind None → BehindRead o text at None
       behind_bad g = no_form o (λ s w q e. let r = here g s w q e in let z : ◌≡◌ {A = ℕ} 0 1 = cc in omega arith)
 
-      module _ {end : ℕ} (g : StateRead o text c.behind (a-place.Is end)) where
-        pub behind_more : (end ≡ length text → ⊥) → BehindRead o text at a-form.Bad
+      module _ {end : ℕ} (g : StateRead o text c.behind (Some end)) where
+        pub behind_more : (end ≡ length text → ⊥) → BehindRead o text at None
         behind_more n = no_form o (λ s w q e. let r = here g s w q e in n cc)
 
-        pub behind_is : end ≡ length text → Whole o.vars → BehindRead o text at (a-form.Is (counts_with o at c))
+        pub behind_is : end ≡ length text → Whole o.vars → BehindRead o text at (Some (counts_with o at c))
         unfolding Rows
         behind_is e v = record {
           sound = λ k d. (let a = f.sound c refl in
@@ -557,29 +547,28 @@ module _ (text : List ℕ) (at : ℕ) (h : at ≤ length text) where
               ));
           complete = λ s w q d. (let r = (section_of f s w d).0 in
               let same : c ≡ clauses_of at s.clauses = cc in
-              ap (λ (o : Opening). a-form.Is (counts_with o at c)) (sym q) ∙ ap (λ (c : Clauses). a-form.Is (counts_with s.opening at c)) same);
+              ap (λ (o : Opening). Some (counts_with o at c)) (sym q) ∙ ap (λ (c : Clauses). Some (counts_with s.opening at c)) same);
         }
 
-pub behind_opened : (text : List ℕ) (at : ℕ) → at ≤ length text → (n : ℕ) (list : Bool) {c : Clauses} {lits ends : List ℕ} → SectionRead text at (a-section.Are c) lits ends → {end : ℕ} → StateRead (opened n list) text c.behind (a-place.Is end) → end ≡ length text → Whole n
-    → BehindRead (opened n list) text at (a-form.Is (record { list = list; n = n; first = at; clauses = c }))
-behind_opened text at h n true f g e v = behind_is text at h (opened n true) f g e v
-behind_opened text at h n false f g e v = behind_is text at h (opened n false) f g e v
+pub behind_opened : (text : List ℕ) (at : ℕ) → at ≤ length text → (n : ℕ) (mode : code-mode.Mode) {c : Clauses} {lits ends : List ℕ} → SectionRead text at (Some c) lits ends → {end : ℕ} → StateRead (opens n (the_mode mode)) text c.behind (Some end) → end ≡ length text → Whole n
+    → BehindRead (opens n (the_mode mode)) text at (Some (record { mode = mode; n = n; first = at; clauses = c }))
+behind_opened text at h n the-modes.Heap f g e v = behind_is text at h (opens n vsids) f g e v
+behind_opened text at h n the-modes.List f g e v = behind_is text at h (opens n vmtf) f g e v
 
 -- ---- the first line, and the whole
 
 -- what code has of it says what was read
-abbrev pub opened_by : first_read.First → Option Opening
-opened_by (a_first.Heap n) = some (opened n false)
-opened_by (a_first.List n) = some (opened n true)
-opened_by a_first.Bad = none
+abbrev pub opened_by : code.Option code-opening.Opening → Option Opening
+opened_by None = none
+opened_by (Some o) = some (opens o.vars (the_mode o.mode))
 
-in_mode_lem : (m : Mode) (n : ℕ) → some (record { vars = n; mode = m }) ≡ opened_by (in_mode m n)
-in_mode_lem vsids n = refl
-in_mode_lem vmtf n = refl
+same_mode : (m : Mode) → the_mode (mode_of m) ≡ m
+same_mode vsids = refl
+same_mode vmtf = refl
 
 pub first_told : (o : Option Opening) → o ≡ opened_by (first_of o)
 first_told none = refl
-first_told (some o) = in_mode_lem o.mode o.vars
+first_told (some o) = ap (λ (m : Mode). some (opens o.vars m)) (sym (same_mode o.mode))
 
 text_first : (s : Saved) → text_of s ≡ first_line s.opening ++ newline ∷ behind_text s
 unfolding text_of row_lines ended
@@ -666,31 +655,31 @@ module _ {text : List ℕ} {at : ℕ} {o : Opening} (w : OpensWith text at o) wh
       let line : take end text ≡ first_line s.opening = ((fields.first).said (take end text) o w.line).0 ∙ ap first_line (sym same) in
       (read_said text s).1 (well, all ∙ rw line (ap (λ (l : List ℕ). first_line s.opening ++ newline ∷ l) (ap (λ (k : ℕ). drop k text) (sym w.place) ∙ there)) ∙ sym (text_first s))
 
-  pub form_read : {r : formed.Formed} → BehindRead o text at r → r ≡ formed_of (read_text text)
+  pub form_read : {r : code.Option Counts} → BehindRead o text at r → r ≡ formed_of (read_text text)
   form_read {r} b = go r (read_text text) refl refl
     where
-      go : (q : formed.Formed) (t : Option Saved) → r ≡ q → read_text text ≡ t → q ≡ formed_of t
+      go : (q : code.Option Counts) (t : Option Saved) → r ≡ q → read_text text ≡ t → q ≡ formed_of t
       go q (some s) d e =
           let x = opens_said s e in
           let f = front text w.end w.is_end s e in
-          sym d ∙ b.complete s x.0 x.1 x.2 ∙ ap (λ (k : ℕ). a-form.Is (counts_from k s)) (w.place ∙ f.place)
-      go (a-form.Is c) none d e = let x = b.sound c d in never (sym e ∙ opens_back x.0 x.1 x.2 x.4)
-      go a-form.Bad none d e = refl
+          sym d ∙ b.complete s x.0 x.1 x.2 ∙ ap (λ (k : ℕ). Some (counts_from k s)) (w.place ∙ f.place)
+      go (Some c) none d e = let x = b.sound c d in never (sym e ∙ opens_back x.0 x.1 x.2 x.4)
+      go None none d e = refl
 
-  pub nothing_read : BehindRead o text at a-form.Bad → read_text text ≡ none
+  pub nothing_read : BehindRead o text at None → read_text text ≡ none
   nothing_read b = go (read_text text) refl
     where
       go : (t : Option Saved) → read_text text ≡ t → t ≡ none
       go none e = refl
       go (some s) e = let x = opens_said s e in let bad = b.complete s x.0 x.1 x.2 in absurd (let z : ◌≡◌ {A = ℕ} 0 1 = cc in omega arith)
 
-  pub something_read : {c : counts.Counts} → BehindRead o text at (a-form.Is c) → (s : Saved) × (read_text text ≡ some s)
+  pub something_read : {c : Counts} → BehindRead o text at (Some c) → (s : Saved) × (read_text text ≡ some s)
   something_read {c} b = let x = b.sound c refl in (x.0, opens_back x.0 x.1 x.2 x.4)
 
   -- what was read stands in its slices
-  module _ {c : Clauses} {lits ends : List ℕ} (f : SectionRead text at (a-section.Are c) lits ends)
-      {t : TrailRows} {trail : List ℕ} {outs : List (List ℕ)} (three : length outs ≡ 3) (g : HeadRead trail_form trail_rest text c.behind (a-place.Is t.behind) t.count t.greatest trail outs)
-      {form : Form} {gs : List Form} (is : choosers_of o ≡ form ∷ gs) {q count top : ℕ} {out : List ℕ} {more : List (List ℕ)} (h : HeadRead form (λ k. gs) text t.behind (a-place.Is q) count top out more) where
+  module _ {c : Clauses} {lits ends : List ℕ} (f : SectionRead text at (Some c) lits ends)
+      {t : TrailRows} {trail : List ℕ} {outs : List (List ℕ)} (three : length outs ≡ 3) (g : HeadRead trail_form trail_rest text c.behind (Some t.behind) t.count t.greatest trail outs)
+      {form : Form} {gs : List Form} (is : choosers_of o ≡ form ∷ gs) {q count top : ℕ} {out : List ℕ} {more : List (List ℕ)} (h : HeadRead form (λ k. gs) text t.behind (Some q) count top out more) where
     pub told : (s : Saved) → read_text text ≡ some s → Told s c t count top lits ends trail (outs ++ (out ∷ more))
     unfolding Rows Fronts
     told s e =

@@ -5,6 +5,7 @@ pub mod Fields
 pub mod Read
 pub mod Examples
 pub mod Greatest
+pub mod Numbers
 pub mod Cursor
 pub mod CursorLaws
 pub mod Form
@@ -12,4 +13,5 @@ pub mod FormLaws
 pub mod Writing
 pub mod Length
 pub mod Puts
+pub mod Sinks
 pub mod Written

@@ -4,4 +4,6 @@
 pub mod cursor;
 pub mod form;
 pub mod letters;
+pub mod number;
+pub mod sink;
 pub mod writing;

@@ -7,6 +7,8 @@ use Rattle.std.proofs.Math.Option.{none}
 use Rattle.std.proofs.lemmas.Bool.{eqb-false}
 use Rattle.std.proofs.Math.Dec.{eqb}
 use Rattle.lit.specs.Numbers.{NONE, max_vars, many_vars, bad_length, bad_clauses, bad_state}
+use Rattle.lit.specs.Refusals.{refusal_number, refusal_above}
+use Rattle.lit.specs.declared.Refusal.{Refusal}
 use Rattle.trail.specs.Trail.{Trail, fresh_trail}
 use Rattle.book.specs.Chooser.{Operations}
 use Rattle.book.specs.Session.{Result, done, refuse, status, need, Session, fresh}
@@ -57,6 +59,13 @@ module _ {S : Type 0} (n : ℕ) (lengths clauses : Bool) where
 
   pub refused : (state : Bool) (x : Result S) (s : S) (k : ℕ) → k ≡ state_refusal n lengths clauses state → (k ≡ 0 → ⊥) → Answered (checked n lengths clauses state x) s k NONE s
   refused state x s k e z = rw (checked_unless state x, ← e) (turned k x s z)
+
+  -- and so is a refusal's number
+  pub size_refused_by : (x : Result S) (s : S) (e : Refusal) → refusal_number e ≡ size_refusal n lengths clauses → Answered (sizes_checked n lengths clauses x) s (refusal_number e) NONE s
+  size_refused_by x s e h = size_refused x s _ h (λ z. omega (arith, refusal_above e))
+
+  pub refused_by : (state : Bool) (x : Result S) (s : S) (e : Refusal) → refusal_number e ≡ state_refusal n lengths clauses state → Answered (checked n lengths clauses state x) s (refusal_number e) NONE s
+  refused_by state x s e h = refused state x s _ h (λ z. omega (arith, refusal_above e))
 
   -- without one it is what comes behind the tests
   pub size_accepted : (x : Result S) → 0 ≡ size_refusal n lengths clauses → sizes_checked n lengths clauses x ≡ x

@@ -1,10 +1,12 @@
 -- What a call answers by the outcome of its tests: laws of results, for any session.
 use Rattle.std.specs.Prelude.{ℕ, ◌<◌, ◌≡◌, ◌≢◌, Bool, cond}
 use Rattle.std.proofs.Math.Path.{refl}
-use Rattle.std.proofs.Common.{sym, ap, lt-ltb}
+use Rattle.std.proofs.Common.{sym, ap, lt-ltb, arith}
 use Rattle.std.proofs.Math.Bool.{true, false}
 use Rattle.std.proofs.Math.Option.{none}
 use Rattle.lit.specs.Numbers.{NONE, past_open}
+use Rattle.lit.specs.Refusals.{refusal_number, refusal_above}
+use Rattle.lit.specs.declared.Refusal.{Refusal}
 use Rattle.trail.specs.Trail.{Trail, enq_decision}
 use Rattle.book.specs.Calls.{decide}
 use Rattle.book.specs.Chooser.{Operations, chose, nothing, stuck}
@@ -36,6 +38,10 @@ module _ {S : Type 0} {s : S} where
   pub refused : (x : Result S) {k : ℕ} → k ≡ status x → k ≢ 0 → Answered x s k NONE s
   refused (done r u) e z = absurd (z e)
   refused (refuse j) e z = record { status = e; reply = refl; session = refl }
+
+  -- and so is a refusal's number
+  pub refused_by : (x : Result S) (e : Refusal) → refusal_number e ≡ status x → Answered x s (refusal_number e) NONE s
+  refused_by x e h = refused x h (λ z. omega (arith, refusal_above e))
 
 -- and status 0 says that the tests passed
 pub no_refusal : {S : Type 0} (b : Bool) (k : ℕ) (x : Result S) → k ≢ 0 → 0 ≡ status (need b k x) → (b ≡ true) × (0 ≡ status x)

@@ -5,10 +5,8 @@ use Rattle.lit.specs.Numbers.{no_variable, bad_reason, assigned}
 use Rattle.lit.specs.Lits.{index, is_assigned}
 use Rattle.trail.specs.Trail.{Trail, enq_assignment, backtrack_safe}
 use Rattle.trail.specs.Trail as trail
-use Rattle.trail.specs.declared.TrailState.{TrailState}
 use Rattle.book.specs.Chooser.{good_reason, Operations}
 use Rattle.book.specs.Session.{Result, done, need, Session}
-use Rattle.session.specs.declared.on_trail.TrailAnswer.{TrailAnswer}
 
 -- 'Enqueue is `enq_assignment`; it refuses an assigned variable'
 unfoldable pub enqueue_on : ℕ → ℕ → ℕ → ℕ → Trail → Result Trail
@@ -28,10 +26,6 @@ learn_unit_on n code t =
 -- 'The number undone is the trail's length before less that after'
 unfoldable pub go_back_on : ℕ → Trail → Result Trail
 go_back_on l t = done (some (t.len - (backtrack_safe l t).len)) (backtrack_safe l t)
-
--- status k and reply r, with the small state to go on with
-abbrev pub trail_answer : ℕ → ℕ → TrailState → TrailAnswer
-trail_answer k r s = record { status = k; reply = r; state = s }
 
 -- with the state c of a chooser that does not follow the trail
 module _ {n m : ℕ} {O : Operations} (c : O.State) where

@@ -1,36 +1,30 @@
 // What the entry points of both modes share: the tests of lent memory that do not look at a chooser.
 ghost use Rattle.std.specs.Prelude.{◌≡◌};
 ghost use Rattle.formula.specs.Clauses.{clauses_ok};
-ghost use Rattle.trail.specs.Memory.{trail_of};
+ghost use Rattle.lit.specs.Refusals.{status_of};
+ghost use Rattle.trail.specs.Memory.{view_in};
 ghost use Rattle.session.specs.Checks.{size_refusal};
 ghost use Rattle.session.specs.Mode.{trail_lengths, clause_lengths, scratch_lengths, scratch_ok};
 
 use crate::Call;
-use lit::{BAD_CLAUSES, BAD_LENGTH, MANY_VARS, MAX_VARS};
-use trail::TrailState;
+use formula::Clauses;
+use lit::{MAX_VARS, Refusal};
+use trail::TrailView;
 
 // Whether the trail's slices have length n.
-pub fn trail_lengths(
-    n: usize,
-    values: &[u8],
-    levels: &[u32],
-    reasons: &[u32],
-    trail: &[u32],
-    opened: &[u32],
-) -> bool
-    ensures { (s : TrailState) →
-        let t = trail_of values.now levels.now reasons.now trail.now opened.now s in
-        result ≡ trail_lengths n t }
+pub fn trail_lengths(n: usize, t: TrailView<'_>) -> bool
+    ensures { result ≡ trail_lengths n (view_in t.entry) }
 {
-    values.len() == n
-        && (levels.len() == n && (reasons.len() == n && (trail.len() == n && opened.len() == n)))
+    t.values.len() == n
+        && (t.levels.len() == n
+            && (t.reasons.len() == n && (t.codes.len() == n && t.opened.len() == n)))
 }
 
 // Whether the clause slices have the stated counts.
-pub fn clause_lengths(literals: u32, clauses: u32, lits: &[u32], ends: &[u32]) -> bool
-    ensures { result ≡ clause_lengths literals clauses lits.now ends.now }
+pub fn clause_lengths(literals: u32, clauses: u32, list: Clauses<'_>) -> bool
+    ensures { result ≡ clause_lengths literals clauses list.entry.lits.now list.entry.ends.now }
 {
-    lits.len() == literals as usize && ends.len() == clauses as usize
+    list.lits.len() == literals as usize && list.ends.len() == clauses as usize
 }
 
 // Whether two scratch slices, of lengths a and b, have length k.
@@ -50,18 +44,19 @@ pub fn scratch_ok(call: Call, k: usize, a: usize, b: usize) -> bool
     }
 }
 
-// The refusal of the number of variables, of the lengths or of the clause list, or 0.
-pub fn size_refusal(n: u32, lengths: bool, lits: &[u32], ends: &[u32]) -> u32
-    ensures { result ≡ size_refusal n lengths (clauses_ok n lits.now ends.now) }
+// The refusal of the number of variables, of the lengths or of the clause list, if there is one.
+#[tactic(auto, unfolding(crate::specs::Entry::sizes_checked, book::specs::Session::need))]
+pub fn size_refusal(n: u32, lengths: bool, list: Clauses<'_>) -> Result<(), Refusal>
+    ensures { status_of result ≡ size_refusal n lengths (clauses_ok n list.entry.lits.now list.entry.ends.now) }
 {
     if n > MAX_VARS {
-        return MANY_VARS;
+        return Err(Refusal::ManyVars);
     }
     if !lengths {
-        return BAD_LENGTH;
+        return Err(Refusal::BadLength);
     }
-    if !formula::check_clauses(n, lits, ends) {
-        return BAD_CLAUSES;
+    if !list.check_clauses(n) {
+        return Err(Refusal::BadClauses);
     }
-    0
+    Ok(())
 }

@@ -36,14 +36,7 @@ pub enum Call {
 pub fn vars_below(n: u32, vars: &[u32]) -> bool
     ensures { result ≡ below n vars.now }
 {
-    let mut i = 0;
-    while i < vars.len() {
-        if vars[i] >= n {
-            return false;
-        }
-        i += 1;
-    }
-    true
+    vars.iter().all(|v| *v < n)
 }
 
 // Whether a reason is NONE or the number of one of m clauses.

@@ -9,7 +9,7 @@ use Rattle.std.proofs.Math.ListN.{length}
 use Rattle.std.proofs.Math.Seq.{take-add, take-suc-set}
 use Rattle.std.proofs.lemmas.List.{take-append-le}
 use Rattle.laws.specs.Tests.{true_or_false, and_left, and_right, not_true}
-use Rattle.lit.specs.Numbers.{max_clauses, max_literals, bad_line, bad_clauses}
+use Rattle.lit.specs.Numbers.{max_clauses, max_literals}
 use Rattle.formula.specs.Clauses.{clause_fits, vars_below}
 use Rattle.formula.specs.Good.{GoodClauses, clauses_facts}
 use Rattle.formula.specs.Adding.{with_end, fits_added}
@@ -21,7 +21,11 @@ use Rattle.forms.specs.Forms.{Mode, vsids, vmtf, begins_clause, codes_in, given,
 use Rattle.forms.specs.Behind.{behind}
 use Rattle.forms.specs.Lines.{codes_none, codes_behind}
 use Rattle.forms.specs.Short.{listed_short}
-use Rattle.sheet.specs.declared.clauses.Added.{Added}
+use Rattle.sheet.specs.declared.clauses.Section.{Section}
+use Rattle.lit.specs.declared.Refusal.{Refusal}
+use Rattle.lit.specs.declared.Refusal.TheVariants as refused
+use Rattle.std.specs.Prelude as code
+use Rattle.std.specs.Prelude.{Ok, Err}
 use Rattle.sheet.specs.Sheet.{ClauseList, added, clause_lines, listed}
 use Rattle.sheet.specs.Stages.{Stage, reading, on_list, clause_with, opened, answers}
 use Rattle.sheet.specs.Running.{next_clause, code_count, ClauseAdded, Slices, Takes}
@@ -111,15 +115,15 @@ too_long n clauses literals codes h = not_true (clause_fits n clauses literals c
     let few : literals + length codes ≤ max_literals = leb-true _ _ (and_right (ltb clauses max_clauses) (leb (literals + length codes) max_literals) limits) in
     omega arith)
 
-module _ (mode : Mode) (n : ℕ) {lits ends : List ℕ} {literals clauses : ℕ} (s : Slices lits ends literals clauses) where
-  used_lits : length (take literals lits) ≡ literals
-  used_lits = length-take-le literals lits s.few_literals_lem
+module _ (mode : Mode) (n : ℕ) {lits ends : List ℕ} (u : Section) (s : Slices lits ends u.literals u.clauses) where
+  used_lits : length (take u.literals lits) ≡ u.literals
+  used_lits = length-take-le u.literals lits s.few_literals_lem
 
-  used_ends : length (take clauses ends) ≡ clauses
-  used_ends = length-take-le clauses ends s.few_clauses
+  used_ends : length (take u.clauses ends) ≡ u.clauses
+  used_ends = length-take-le u.clauses ends s.few_clauses
 
   -- 3, by its form: only what lies behind the literals is changed
-  pub bad_form : (lits' : List ℕ) → take literals lits' ≡ take literals lits → ClauseAdded mode n none lits ends literals clauses (record { status = bad_line; literals = literals; clauses = clauses }) lits' ends
+  pub bad_form : (lits' : List ℕ) → take u.literals lits' ≡ take u.literals lits → ClauseAdded mode n none lits ends u (Err refused.BadLine) lits' ends
   bad_form lits' same = record {
     status = refl;
     stage = rw same;
@@ -131,7 +135,7 @@ module _ (mode : Mode) (n : ℕ) {lits ends : List ℕ} {literals clauses : ℕ}
 
   module _ (codes : List ℕ) where
     -- 6, where it does not fit
-    pub no_fit : clause_fits n clauses literals codes ≡ false → ClauseAdded mode n (some codes) lits ends literals clauses (record { status = bad_clauses; literals = literals; clauses = clauses }) lits ends
+    pub no_fit : clause_fits n u.clauses u.literals codes ≡ false → ClauseAdded mode n (some codes) lits ends u (Err refused.BadClauses) lits ends
     unfolding need
     no_fit e = record {
       status = rw (used_lits, used_ends, e);
@@ -143,13 +147,13 @@ module _ (mode : Mode) (n : ℕ) {lits ends : List ℕ} {literals clauses : ℕ}
     }
 
     -- added: its codes stand behind the literals, and its end behind the ends
-    pub fit : clause_fits n clauses literals codes ≡ true → literals + length codes ≤ length lits → clauses < length ends → take (length codes) (drop literals lits) ≡ codes
-        → ClauseAdded mode n (some codes) lits ends literals clauses (record { status = 0; literals = literals + length codes; clauses = clauses + 1 }) lits (set ends clauses (literals + length codes))
+    pub fit : clause_fits n u.clauses u.literals codes ≡ true → u.literals + length codes ≤ length lits → u.clauses < length ends → take (length codes) (drop u.literals lits) ≡ codes
+        → ClauseAdded mode n (some codes) lits ends u (Ok (record { place = u.place; literals = u.literals + length codes; clauses = u.clauses + 1 })) lits (set ends u.clauses (u.literals + length codes))
     unfolding need
     fit e room more held =
         record {
           status = rw (used_lits, used_ends, e);
-          stage = rw (used_lits, used_ends, e, take-add literals (length codes) lits, held, add-one clauses, take-suc-set ends clauses (literals + length codes) more);
+          stage = rw (used_lits, used_ends, e, take-add u.literals (length codes) lits, held, add-one u.clauses, take-suc-set ends u.clauses (u.literals + length codes) more);
           few_literals_lem = room;
           few_clauses = omega arith;
           more_literals = omega arith;
@@ -157,11 +161,11 @@ module _ (mode : Mode) (n : ℕ) {lits ends : List ℕ} {literals clauses : ℕ}
         }
 
 -- the same, for slices that are the same as far as they are in use
-pub same_front : {mode : Mode} {n : ℕ} {codes : Option (List ℕ)} {lits lits₀ ends lits' ends' : List ℕ} {literals clauses : ℕ} {a : Added} → take literals lits ≡ take literals lits₀ → length lits ≡ length lits₀
-    → ClauseAdded mode n codes lits ends literals clauses a lits' ends' → ClauseAdded mode n codes lits₀ ends literals clauses a lits' ends'
-same_front {mode} {n} {codes} {ends = ends} {clauses = clauses} e long h = record {
-  status = h.status ∙ ap (λ (l : List ℕ). status (clause_with mode n l (take clauses ends) codes)) e;
-  stage = h.stage ∙ ap (λ (l : List ℕ). leaves (reading mode n l (take clauses ends)) (clause_with mode n l (take clauses ends) codes)) e;
+pub same_front : {mode : Mode} {n : ℕ} {codes : Option (List ℕ)} {lits lits₀ ends lits' ends' : List ℕ} {s : Section} {a : code.Result Section Refusal} → take s.literals lits ≡ take s.literals lits₀ → length lits ≡ length lits₀
+    → ClauseAdded mode n codes lits ends s a lits' ends' → ClauseAdded mode n codes lits₀ ends s a lits' ends'
+same_front {mode} {n} {codes} {ends = ends} {s = s} e long h = record {
+  status = h.status ∙ ap (λ (l : List ℕ). status (clause_with mode n l (take s.clauses ends) codes)) e;
+  stage = h.stage ∙ ap (λ (l : List ℕ). leaves (reading mode n l (take s.clauses ends)) (clause_with mode n l (take s.clauses ends) codes)) e;
   few_literals_lem = omega (arith, h.few_literals_lem, long);
   few_clauses = h.few_clauses;
   more_literals = h.more_literals;
@@ -169,9 +173,9 @@ same_front {mode} {n} {codes} {ends = ends} {clauses = clauses} e long h = recor
 }
 
 -- and for a line that is the same
-pub same_line : {n : ℕ} {lits ends lits' ends' : List ℕ} {literals clauses : ℕ} {a : Added} {line line' : List ℕ} → line ≡ line'
-    → ((mode : Mode) → ClauseAdded mode n (codes_in line) lits ends literals clauses a lits' ends') → (mode : Mode) → ClauseAdded mode n (codes_in line') lits ends literals clauses a lits' ends'
-same_line {n} {lits} {ends} {lits'} {ends'} {literals} {clauses} {a} e h mode = subst (λ (l : List ℕ). ClauseAdded mode n (codes_in l) lits ends literals clauses a lits' ends') e (h mode)
+pub same_line : {n : ℕ} {lits ends lits' ends' : List ℕ} {s : Section} {a : code.Result Section Refusal} {line line' : List ℕ} → line ≡ line'
+    → ((mode : Mode) → ClauseAdded mode n (codes_in line) lits ends s a lits' ends') → (mode : Mode) → ClauseAdded mode n (codes_in line') lits ends s a lits' ends'
+same_line {n} {lits} {ends} {lits'} {ends'} {s} {a} e h mode = subst (λ (l : List ℕ). ClauseAdded mode n (codes_in l) lits ends s a lits' ends') e (h mode)
 
 -- codes put behind the literals stand there
 pub put_behind : (a j k : ℕ) (l r ns : List ℕ) → a ≤ length l → k ≤ length r → take k r ≡ ns → take k (drop a (put_mid a j l r)) ≡ ns

@@ -8,11 +8,12 @@ use Rattle.book.specs.Session.{leaves}
 use Rattle.book.specs.Mapped.{mapped_leaves}
 use Rattle.forms.specs.Text.{written}
 use Rattle.forms.specs.Forms.{Mode, vsids, codes_in}
-use Rattle.sheet.specs.declared.clauses.Added.{Added}
+use Rattle.lit.specs.declared.Refusal.{Refusal}
+use Rattle.std.specs.Prelude as code
 use Rattle.sheet.specs.declared.clauses.Section.{Section}
 use Rattle.sheet.specs.Sheet.{ClauseList, added, clause_lines, listed}
 use Rattle.sheet.specs.Stages.{Stage, on_list}
-use Rattle.sheet.specs.Running.{lines_from, line_length, line_from, after, next_clause, ClauseAdded, Ready}
+use Rattle.sheet.specs.Running.{lines_from, line_length, line_from, after, next_clause, kept, ClauseAdded, Ready}
 use Rattle.sheet.proofs.ClauseLines.{no_clause_line}
 use Rattle.sheet.proofs.Steps.{lines_more, room_behind}
 use Rattle.sheet.proofs.Section.{clause_more, is_clause, ready_behind}
@@ -39,10 +40,10 @@ module _ {n : ℕ} {sheet out : List ℕ} where
 
 -- one line is read, and the answer's place stays
 module _ {n : ℕ} {sheet out lits ends : List ℕ} {s : Section} (ready : Ready n sheet s out lits ends) (next : next_clause (lines_from sheet s.place.from) ≡ true)
-    {a : Added} {lits' ends' : List ℕ} (read : (mode : Mode) → ClauseAdded mode n (codes_in (line_from sheet s.place.from)) lits ends s.literals s.clauses a lits' ends')
+    {a : code.Result Section Refusal} {lits' ends' : List ℕ} (read : (mode : Mode) → ClauseAdded mode n (codes_in (line_from sheet s.place.from)) lits ends s a lits' ends')
     (lits_same : length lits' ≡ length lits) (ends_same : length ends' ≡ length ends) where
   abbrev behind : Section
-  behind = record { place = after s.place (s.place.from + line_length sheet s.place.from) s.place.at; literals = a.literals; clauses = a.clauses }
+  behind = record { place = after s.place (s.place.from + line_length sheet s.place.from) s.place.at; literals = (kept s a).literals; clauses = (kept s a).clauses }
 
   list_behind : front lits' ends' behind ≡ leaves (front lits ends s) (added n (front lits ends s) (codes_in (line_from sheet s.place.from)))
   list_behind =

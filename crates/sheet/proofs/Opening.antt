@@ -1,15 +1,17 @@
 -- A sheet from its first line on, as code runs it: what the first line opens, its answer, and where the lines behind it begin. Assumes nothing.
 use Rattle.std.specs.Prelude.{ℕ, ◌+◌, ◌*◌, ◌≤◌, ◌<◌, ◌≡◌, List, [], ◌∷◌, length}
 use Rattle.std.proofs.Math.Path.{refl}
-use Rattle.std.proofs.Common.{sym, ap, subst, ◌∙◌, arith}
+use Rattle.std.proofs.Common.{ap, subst, ◌∙◌, arith}
 use Rattle.std.proofs.Math.Option.{Option, none, some}
 use Rattle.lit.specs.Numbers.{max_sheet, max_literals, answer_room}
 use Rattle.formula.specs.Good.{GoodClauses}
 use Rattle.forms.specs.Text.{newline, lines, occurs, written}
 use Rattle.forms.specs.TextLaws.{occurs_length}
-use Rattle.forms.specs.declared.First as code
+use Rattle.std.specs.Prelude as code
+use Rattle.forms.specs.declared.Opening as opens
 use Rattle.forms.specs.Forms.{Mode, vsids, vmtf, Opening, first_in}
-use Rattle.forms.specs.Read.{in_mode, first_of}
+use Rattle.forms.specs.Read.{first_of}
+use Rattle.forms.specs.Read as forms
 use Rattle.forms.specs.Written.{Wrote}
 use Rattle.sheet.specs.declared.Place.{Place}
 use Rattle.sheet.specs.Sheet.{answer_line, opening, answered}
@@ -18,15 +20,15 @@ use Rattle.sheet.proofs.Turns.{answered_turns}
 use Rattle.sheet.proofs.Bounds.{answer_short}
 use Rattle.sheet.specs.Running.{lines_from, line_length, line_from, after, Room, Holds, Ready}
 use Rattle.sheet.proofs.Steps.{lines_more, answer_room_lem, room_behind}
-use Rattle.sheet.specs.Opening.{at_first, opening_of}
+use Rattle.sheet.specs.Opening.{at_first, mode_of, opening_of}
 
-in_mode_lem : (mode : Mode) (n : ℕ) → opening_of (in_mode mode n) ≡ some (record { mode = mode; vars = n })
-in_mode_lem vsids n = refl
-in_mode_lem vmtf n = refl
+same_mode : (m : Mode) → mode_of (forms.mode_of m) ≡ m
+same_mode vsids = refl
+same_mode vmtf = refl
 
-pub first_told : (o : Option Opening) {r : code.First} → r ≡ first_of o → o ≡ opening_of r
+pub first_told : (o : Option Opening) {r : code.Option opens.Opening} → r ≡ first_of o → o ≡ opening_of r
 first_told none e = rw e
-first_told (some o) e = rw e (sym (in_mode_lem o.mode o.vars))
+first_told (some o) e = rw (e, same_mode o.mode)
 
 pub start_room : (sheet out : List ℕ) → length sheet ≤ max_sheet → answer_room * occurs newline sheet ≤ length out → Room sheet (at_first (occurs newline sheet)) out
 start_room sheet out short room = record {

@@ -7,8 +7,6 @@ use Rattle.trail.specs.Good.{GoodTrail}
 use Rattle.vsids.specs.Vsids as vsids
 use Rattle.vsids.specs.Good.{GoodHeap, Right}
 use Rattle.vsids.proofs.Choice.{get_next_right}
-use Rattle.vmtf.specs.declared.Next.TheVariants as found
-use Rattle.vmtf.specs.declared.Next as code
 use Rattle.vmtf.specs.Vmtf.{Vmtf}
 use Rattle.vmtf.specs.Vmtf as vmtf
 use Rattle.vmtf.specs.Good.{GoodList}
@@ -69,10 +67,10 @@ heap_chosen : (n : ℕ) (values : List ℕ) (h : vsids.Vsids) (r : vsids.Found) 
 heap_chosen n values h (vsids.chose v h') q = q.var
 heap_chosen n values h (vsids.nothing h') q = tt
 
-list_chosen : (n : ℕ) (order values : List ℕ) (l : Vmtf) (r : code.Next) → NextIs n order values l r → Chosen n (list.next_of l r)
-list_chosen n order values l (found.Chose s v) q = q.0
-list_chosen n order values l found.Nothing q = tt
-list_chosen n order values l found.Stuck q = tt
+list_chosen : (n : ℕ) (order values : List ℕ) (l : Vmtf) (r : vmtf.Found) → NextIs n order values l r → Chosen n (list.next_of r)
+list_chosen n order values l (vmtf.chose v m) q = q.0
+list_chosen n order values l (vmtf.nothing m) q = tt
+list_chosen n order values l vmtf.stuck q = tt
 
 -- in heap mode, and in list mode
 pub heap_reply : (n m : ℕ) (lits ends : List ℕ) (s : Session n m (heap_ops n lits ends)) → n ≤ max_vars → GoodTrail n m s.trail → GoodHeap n s.trail.values s.chooser

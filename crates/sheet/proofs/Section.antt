@@ -1,5 +1,6 @@
 -- The clause section, line by line: what adding a line's clause and writing its answer leaves. Assumes nothing.
-use Rattle.std.specs.Prelude.{ℕ, ◌+◌, ◌*◌, ◌≤◌, ◌<◌, ◌≡◌, refl, true, false, length, take, drop}
+use Rattle.std.specs.Prelude.{ℕ, ◌+◌, ◌*◌, ◌≤◌, ◌<◌, ◌≡◌, refl, true, false, length, take, drop, Ok, Err, None}
+use Rattle.std.specs.Result.{result_and}
 use Rattle.std.proofs.Common.{sym, ap, subst, ◌∙◌, length-take-le}
 use Rattle.std.proofs.Math.Logic.{by_cases}
 use Rattle.std.proofs.lemmas.Bool.{false≢true}
@@ -13,16 +14,24 @@ use Rattle.book.specs.Session.{status, reply}
 use Rattle.forms.specs.Text.{written}
 use Rattle.forms.specs.Forms.{Mode, vsids, begins_clause, codes_in}
 use Rattle.sheet.specs.declared.Place.{Place}
-use Rattle.sheet.specs.declared.clauses.Added.{Added}
+use Rattle.lit.specs.declared.Refusal.{Refusal}
+use Rattle.lit.specs.Refusals.{status_of}
+use Rattle.std.specs.Prelude as code
 use Rattle.sheet.specs.declared.clauses.Section.{Section}
 use Rattle.sheet.specs.Sheet.{answer_line}
+use Rattle.sheet.specs.Writing.{replied}
 use Rattle.sheet.specs.Stages.{Stage, reading, opened}
 use Rattle.forms.specs.Written.{Wrote, same_room}
 use Rattle.sheet.proofs.Bounds.{answer_short, turn_small}
-use Rattle.sheet.specs.Running.{lines_from, line_length, line_from, after, Room, Ended, SameEnd, next_clause, stage_of, clause_of, ClauseAdded, Takes, Ready, SoFar}
+use Rattle.sheet.specs.Running.{lines_from, line_length, line_from, after, Room, Ended, SameEnd, next_clause, stage_of, clause_of, kept, ClauseAdded, Takes, Ready, SoFar}
 use Rattle.sheet.proofs.Steps.{same_end, lines_over, line_found, line_inside, lines_more, answer_room_lem, room_behind, end_behind}
 use Rattle.sheet.specs.ClauseLines.{GoodStage}
 use Rattle.sheet.proofs.ClauseLines.{section_over, clause_reply, clause_good, codes_short}
+
+-- a clause line has a status and no reply
+pub unreplied : (a : code.Result Section Refusal) (i : ℕ) → let given = result_and a (Ok None) in answer_line i (status_of given) (replied given) ≡ answer_line i (status_of a) none
+unreplied (Ok s) i = refl
+unreplied (Err e) i = refl
 
 -- no line is answered yet, or one after another
 pub so_far_none : {n : ℕ} {sheet : List ℕ} {s : Section} {out lits ends : List ℕ} → Ready n sheet s out lits ends → SoFar n sheet s out lits ends s out lits ends
@@ -67,22 +76,22 @@ module _ {n : ℕ} {sheet out lits ends : List ℕ} {s : Section} (ready : Ready
     clause = λ few. (let more : s.clauses + 1 ≤ length ends = ready.holds.clauses (s.clauses + 1) (omega arith) (omega (arith, line_long, not_empty line is_clause, line_inside ready.room clause_more, ready.read_clauses)) in omega arith);
   }
 
-  module _ {a : Added} {lits' ends' : List ℕ} (added : (mode : Mode) → ClauseAdded mode n (codes_in line) lits ends s.literals s.clauses a lits' ends') where
+  module _ {a : code.Result Section Refusal} {lits' ends' : List ℕ} (added : (mode : Mode) → ClauseAdded mode n (codes_in line) lits ends s a lits' ends') where
     -- the answer fits its room, and the buffer
-    short : length (answer_line s.place.line a.status none) ≤ answer_room
+    short : length (answer_line s.place.line (status_of a) none) ≤ answer_room
     short =
-        let few : a.status < 100 = subst (λ (k : ℕ). k < 100) (sym (added vsids).status) (turn_small (stage_of vsids n lits ends s) line) in
-        answer_short s.place.line a.status none (omega (arith, ready.room.numbered, clause_more)) few
+        let few : (status_of a) < 100 = subst (λ (k : ℕ). k < 100) (sym (added vsids).status) (turn_small (stage_of vsids n lits ends s) line) in
+        answer_short s.place.line (status_of a) none (omega (arith, ready.room.numbered, clause_more)) few
 
-    pub answer_fits : s.place.at + length (answer_line s.place.line a.status none) ≤ length out
-    answer_fits = answer_room_lem ready.room clause_more (answer_line s.place.line a.status none) short
+    pub answer_fits : s.place.at + length (answer_line s.place.line (status_of a) none) ≤ length out
+    answer_fits = answer_room_lem ready.room clause_more (answer_line s.place.line (status_of a) none) short
 
-    good : GoodClauses n (take a.literals lits') (take a.clauses ends')
+    good : GoodClauses n (take (kept s a).literals lits') (take (kept s a).clauses ends')
     good = subst (λ (u : Stage). GoodStage u) (sym (added vsids).stage) (clause_good vsids n (take s.literals lits) (take s.clauses ends) ready.good (codes_in line))
 
     module _ (lits_same : length lits' ≡ length lits) (ends_same : length ends' ≡ length ends) where
       abbrev behind : ℕ → Section
-      behind k = record { place = after s.place (s.place.from + line_length sheet s.place.from) k; literals = a.literals; clauses = a.clauses }
+      behind k = record { place = after s.place (s.place.from + line_length sheet s.place.from) k; literals = (kept s a).literals; clauses = (kept s a).clauses }
 
       pub ready_behind : {out' : List ℕ} {k : ℕ} → Room sheet (behind k).place out' → Ready n sheet (behind k) out' lits' ends'
       ready_behind room = record {
@@ -98,7 +107,7 @@ module _ {n : ℕ} {sheet out lits ends : List ℕ} {s : Section} (ready : Ready
         good = good;
       }
 
-      module _ {out' : List ℕ} {k : ℕ} (wrote : Wrote s.place.at (answer_line s.place.line a.status none) out out' k) where
+      module _ {out' : List ℕ} {k : ℕ} (wrote : Wrote s.place.at (answer_line s.place.line (status_of a) none) out out' k) where
         end_as_clause : (mode : Mode) → SameEnd sheet s.place (stage_of mode n lits ends s) out (behind k).place (stage_of mode n lits' ends' (behind k)) out'
         end_as_clause mode =
             let x = clause_of mode n lits ends s.literals s.clauses (codes_in line) in

@@ -1,5 +1,9 @@
 -- A run between two lines, as code holds it: the sheet and the answer buffer, and a place in both.
 use Rattle.std.specs.Prelude.{ℕ, ◌+◌, ◌*◌, ◌-◌, ◌≤◌, ◌<◌, ◌≡◌, Bool, false, List, [], ◌∷◌, length, drop, take}
+use Rattle.std.specs.Result.{result_unwrap_or}
+use Rattle.std.specs.Prelude as code
+use Rattle.lit.specs.declared.Refusal.{Refusal}
+use Rattle.lit.specs.Refusals.{status_of}
 use Rattle.std.proofs.Math.Option.{Option, none, some}
 use Rattle.lit.specs.Numbers.{max_sheet, max_clauses, max_literals, answer_room}
 use Rattle.formula.specs.Good.{GoodClauses}
@@ -7,7 +11,6 @@ use Rattle.book.specs.Session.{Result, status, leaves}
 use Rattle.forms.specs.Text.{newline, lines, occurs, find, written}
 use Rattle.forms.specs.Forms.{Mode, begins_clause}
 use Rattle.sheet.specs.declared.Place.{Place}
-use Rattle.sheet.specs.declared.clauses.Added.{Added}
 use Rattle.sheet.specs.declared.clauses.Section.{Section}
 use Rattle.sheet.specs.Stages.{Stage, reading, clause_with, answers, stage_behind}
 
@@ -73,14 +76,18 @@ abbrev pub code_count : Option (List ℕ) → ℕ
 code_count none = 0
 code_count (some codes) = length codes
 
+-- where the run stands among the clause lines once a line is read: the longer list, or the same where it was refused
+abbrev pub kept : Section → code.Result Section Refusal → Section
+kept s a = result_unwrap_or a s
+
 -- a clause line did what its turn says: the status, and the clause list behind it, longer by its codes at most
-pub record ClauseAdded (mode : Mode) (n : ℕ) (codes : Option (List ℕ)) (lits ends : List ℕ) (literals clauses : ℕ) (a : Added) (lits' ends' : List ℕ) : Type 0 where
-  pub status : a.status ≡ status (clause_of mode n lits ends literals clauses codes)
-  pub stage : reading_of mode n lits' ends' a.literals a.clauses ≡ leaves (reading_of mode n lits ends literals clauses) (clause_of mode n lits ends literals clauses codes)
-  pub few_literals_lem : a.literals ≤ length lits
-  pub few_clauses : a.clauses ≤ length ends
-  pub more_literals : a.literals ≤ literals + code_count codes
-  pub more_clauses : a.clauses ≤ clauses + 1
+pub record ClauseAdded (mode : Mode) (n : ℕ) (codes : Option (List ℕ)) (lits ends : List ℕ) (s : Section) (a : code.Result Section Refusal) (lits' ends' : List ℕ) : Type 0 where
+  pub status : status_of a ≡ status (clause_of mode n lits ends s.literals s.clauses codes)
+  pub stage : stage_of mode n lits' ends' (kept s a) ≡ leaves (stage_of mode n lits ends s) (clause_of mode n lits ends s.literals s.clauses codes)
+  pub few_literals_lem : (kept s a).literals ≤ length lits
+  pub few_clauses : (kept s a).clauses ≤ length ends
+  pub more_literals : (kept s a).literals ≤ s.literals + code_count codes
+  pub more_clauses : (kept s a).clauses ≤ s.clauses + 1
 
 -- the slices of the clause list, no longer than it may become, and so many of them in use
 pub record Slices (lits ends : List ℕ) (literals clauses : ℕ) : Type 0 where

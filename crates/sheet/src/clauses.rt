@@ -2,21 +2,12 @@
 ghost use Rattle.std.specs.Prelude.{◌≡◌, true, false, List, ℕ, ◌+◌, ◌*◌, ◌≤◌, ◌<◌, length, take, drop};
 ghost use Rattle.std.proofs.Math.Option.{some};
 ghost use Rattle.forms.specs.Forms.{Mode, codes_in};
-ghost use Rattle.sheet.specs.Running.{lines_from, Room, next_clause, ClauseAdded, Slices, Takes, Ready, SoFar};
+ghost use Rattle.sheet.specs.Running.{lines_from, line_from, line_length, Room, next_clause, ClauseAdded, Slices, Takes, Ready, SoFar};
 ghost use Rattle.sheet.specs.Counting.{listed_from, Counted};
 
 use crate::{Place, answer, behind};
-use forms::Count;
 use forms::text::NEWLINE;
-use lit::{BAD_CLAUSES, BAD_LINE, NONE};
-
-// The status of a clause line, and the counts of the clause list behind it.
-#[derive(Clone, Copy)]
-pub struct Added {
-    pub status: u32,
-    pub literals: u32,
-    pub clauses: u32,
-}
+use lit::Refusal;
 
 // Where a run stands among the clause lines: its place, and the counts of the clause list.
 #[derive(Clone, Copy)]
@@ -31,33 +22,27 @@ fn add_clause(
     n: u32,
     lits: &[u32],
     ends: &mut [u32],
-    literals: u32,
-    clauses: u32,
+    s: Section,
     k: usize,
-) -> Added
-    requires { Slices lits.now ends.old literals clauses × Takes lits.now ends.old literals clauses k }
-    ensures { (mode : Mode) (codes : List ℕ) → length codes ≡ k → (literals + k ≤ length lits.now → take k (drop literals lits.now) ≡ codes)
-        → ClauseAdded mode n (some codes) lits.now ends.old literals clauses result lits.now ends.new }
+) -> Result<Section, Refusal>
+    requires { Slices lits.now ends.old s.literals s.clauses × Takes lits.now ends.old s.literals s.clauses k }
+    ensures { (mode : Mode) (codes : List ℕ) → length codes ≡ k → (s.literals + k ≤ length lits.now → take k (drop s.literals lits.now) ≡ codes)
+        → ClauseAdded mode n (some codes) lits.now ends.old s result lits.now ends.new }
 {
-    let from = literals as usize;
-    let refused = Added {
-        status: BAD_CLAUSES,
-        literals: literals,
-        clauses: clauses,
-    };
+    let from = s.literals as usize;
     if k > lits.len() - from {
-        return refused;
+        return Err(Refusal::BadClauses);
     }
-    if !formula::clause_fits(n, clauses, literals, &lits[from..from + k]) {
-        return refused;
+    if !formula::clause_fits(n, s.clauses, s.literals, &lits[from..from + k]) {
+        return Err(Refusal::BadClauses);
     }
-    let end = literals + k as u32;
-    ends[clauses as usize] = end;
-    Added {
-        status: 0,
+    let end = s.literals + k as u32;
+    ends[s.clauses as usize] = end;
+    Ok(Section {
         literals: end,
-        clauses: clauses + 1,
-    }
+        clauses: s.clauses + 1,
+        ..s
+    })
 }
 
 // Adds the clause of a line to the clause list at the front of the slices, unless it is refused.
@@ -66,23 +51,15 @@ fn clause_line(
     n: u32,
     lits: &mut [u32],
     ends: &mut [u32],
-    literals: u32,
-    clauses: u32,
-) -> Added
-    requires { Slices lits.old ends.old literals clauses × ((k : ℕ) → 2 * k ≤ length line.now → Takes lits.old ends.old literals clauses k) }
-    ensures { (mode : Mode) → ClauseAdded mode n (codes_in line.now) lits.old ends.old literals clauses result lits.new ends.new }
+    s: Section,
+) -> Result<Section, Refusal>
+    requires { Slices lits.old ends.old s.literals s.clauses × ((k : ℕ) → 2 * k ≤ length line.now → Takes lits.old ends.old s.literals s.clauses k) }
+    ensures { (mode : Mode) → ClauseAdded mode n (codes_in line.now) lits.old ends.old s result lits.new ends.new }
 {
-    let from = literals as usize;
-    match forms::read_codes(line, &mut lits[from..]) {
-        Count::Bad => {
-            Added {
-                status: BAD_LINE,
-                literals: literals,
-                clauses: clauses,
-            }
-        }
-        Count::Are(k) => add_clause(n, lits, ends, literals, clauses, k),
-    }
+    let Some(k) = forms::read_codes(line, &mut lits[s.literals as usize..]) else {
+        return Err(Refusal::BadLine);
+    };
+    add_clause(n, lits, ends, s, k)
 }
 
 // Whether a clause line comes next.
@@ -92,6 +69,23 @@ pub fn next_is_clause(sheet: &[u8], p: Place) -> bool
 {
     let from = p.from;
     p.left > 0 && forms::begins_clause(&sheet[from..])
+}
+
+// Reads one clause line: where it ends, and the section with its clause in the list, unless it is refused.
+fn read_clause(
+    sheet: &[u8],
+    n: u32,
+    lits: &mut [u32],
+    ends: &mut [u32],
+    s: Section,
+) -> (usize, Result<Section, Refusal>)
+    requires { ((out : List ℕ) × Ready n sheet.now s out lits.old ends.old) × (next_clause (lines_from sheet.now s.place.from) ≡ true) }
+    ensures end { result.0 ≡ s.place.from + line_length sheet.now s.place.from }
+    ensures added { (mode : Mode) → ClauseAdded mode n (codes_in (line_from sheet.now s.place.from)) lits.old ends.old s result.1 lits.new ends.new }
+{
+    let from = s.place.from;
+    let end = from + forms::text::find(&sheet[from..], NEWLINE);
+    (end, clause_line(&sheet[from..end], n, lits, ends, s))
 }
 
 // Reads one clause line and answers it.
@@ -107,16 +101,12 @@ fn clause_step(
     ensures left_lt_left { result.place.left < s.place.left }
     ensures so_far { SoFar n sheet.now s out.old lits.old ends.old result out.new lits.new ends.new }
 {
-    let p = s.place;
-    let from = p.from;
-    let end = from + forms::text::find(&sheet[from..], NEWLINE);
-    let a = clause_line(&sheet[from..end], n, lits, ends, s.literals, s.clauses);
-    let at = answer(out, p.at, p.line, a.status, NONE);
-    let q = behind(p, end, at);
+    let (end, added) = read_clause(sheet, n, lits, ends, s);
+    let at = answer(out, s.place.at, s.place.line, added.and(Ok(None)));
+    let place = behind(s.place, end, at);
     Section {
-        place: q,
-        literals: a.literals,
-        clauses: a.clauses,
+        place,
+        ..added.unwrap_or(s)
     }
 }
 
@@ -147,15 +137,11 @@ fn count_step(sheet: &[u8], n: u32, lits: &mut [u32], ends: &mut [u32], s: Secti
     ensures by_index { (out : List ℕ) → Ready n sheet.now s out lits.old ends.old
         → Counted n sheet.now out s lits.old ends.old result lits.new ends.new }
 {
-    let p = s.place;
-    let from = p.from;
-    let end = from + forms::text::find(&sheet[from..], NEWLINE);
-    let a = clause_line(&sheet[from..end], n, lits, ends, s.literals, s.clauses);
-    let q = behind(p, end, p.at);
+    let (end, added) = read_clause(sheet, n, lits, ends, s);
+    let place = behind(s.place, end, s.place.at);
     Section {
-        place: q,
-        literals: a.literals,
-        clauses: a.clauses,
+        place,
+        ..added.unwrap_or(s)
     }
 }
 

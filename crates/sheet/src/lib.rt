@@ -5,12 +5,14 @@ ghost use Rattle.std.specs.Prelude.{◌≡◌, ◌+◌, ◌≤◌, ◌<◌, leng
 ghost use Rattle.lit.specs.Numbers.{max_sheet};
 ghost use Rattle.sheet.specs.Sheet.{answer_line};
 ghost use Rattle.forms.specs.Written.{Wrote};
-ghost use Rattle.sheet.specs.Writing.{reply_of, field, ending};
+ghost use Rattle.lit.specs.Refusals.{status_of};
+ghost use Rattle.session.specs.Entry.{reply_of as reply_number};
+ghost use Rattle.sheet.specs.Writing.{reply_of, replied, field, ending};
 ghost use Rattle.sheet.specs.Running.{after};
 
 use forms::letters::DASH;
 use forms::text::{NEWLINE, TAB};
-use lit::NONE;
+use lit::{NONE, Refusal};
 
 pub mod clauses;
 
@@ -39,14 +41,34 @@ fn put_ending(out: &mut [u8], at: usize, reply: u32) -> usize
     k + 1
 }
 
+// The status of what a line gave: 0, or the number of its refusal.
+fn status(given: Result<Option<u32>, Refusal>) -> u32
+    ensures { result ≡ status_of given }
+{
+    match given {
+        Ok(_) => 0,
+        Err(e) => e.number(),
+    }
+}
+
+// Its reply, NONE where there is none.
+fn reply(given: Result<Option<u32>, Refusal>) -> u32
+    ensures { result ≡ reply_number given }
+{
+    match given {
+        Ok(reply) => reply.unwrap_or(NONE),
+        Err(_) => NONE,
+    }
+}
+
 // Writes the answer to a line from a place on, and gives the place behind it.
-pub fn answer(out: &mut [u8], at: usize, line: u32, status: u32, reply: u32) -> usize
-    requires { at + length (answer_line line status (reply_of reply)) ≤ length out.old }
-    ensures { Wrote at (answer_line line status (reply_of reply)) out.old out.new result }
+pub fn answer(out: &mut [u8], at: usize, line: u32, given: Result<Option<u32>, Refusal>) -> usize
+    requires { at + length (answer_line line (status_of given) (replied given)) ≤ length out.old }
+    ensures { Wrote at (answer_line line (status_of given) (replied given)) out.old out.new result }
 {
     let a = put_field(out, at, line);
-    let b = put_field(out, a, status);
-    put_ending(out, b, reply)
+    let b = put_field(out, a, status(given));
+    put_ending(out, b, reply(given))
 }
 
 // Where a run stands: the place in the sheet, how many lines are left, the number of the next, and the place in the answer buffer.

@@ -8,8 +8,7 @@ fn main(rt: HostRuntime) {
     let mut sheet = [0u8; 65536];
     let mut answers = [0u8; 65536];
     let mut positions = [NONE; 2048];
-    let mut n = 0;
-    let _ = input::read_all(&mut rt.stdin(), &mut sheet, &mut n);
+    let n = input::read_all(&mut rt.stdin(), &mut sheet).unwrap_or_else(|cut| cut.len);
     let k = desk::print(&sheet[..n], &mut answers, &mut positions) as usize;
     if rt.write_all(&answers[..k]).is_err() {
         let _ = rt.eprintln("sigvort: the answers could not be written");

@@ -4,10 +4,28 @@ use Rattle.lit.specs.Numbers.{max_vars}
 use Rattle.lit.specs.Lits.{index}
 use Rattle.trail.specs.Trail.{Trail}
 use Rattle.trail.specs.declared.TrailState.{TrailState}
+use Rattle.trail.specs.declared.Trail as code
+use Rattle.trail.specs.declared.TrailView as view
 
 -- the slices' contents and the counts, as one record
 abbrev pub trail_of : List ℕ → List ℕ → List ℕ → List ℕ → List ℕ → TrailState → Trail
 trail_of values levels reasons trail opened s = record { values = values; levels = levels; reasons = reasons; trail = trail; opened = opened; len = s.len; level = s.level; curr = s.curr_i }
+
+-- what the code's trail holds, and what a view of one shows
+abbrev pub trail_in : code.Trail → Trail
+trail_in t = trail_of t.values.now t.levels.now t.reasons.now t.codes.now t.opened.now t.at
+
+abbrev pub view_in : view.TrailView → Trail
+view_in t = trail_of t.values.now t.levels.now t.reasons.now t.codes.now t.opened.now t.at
+
+-- the trail holds the same slices as before
+abbrev pub SameSlices : code.Trail → code.Trail → Type 0
+SameSlices before after =
+    (before.values.ghost_name ≡ after.values.ghost_name)
+    × ((before.levels.ghost_name ≡ after.levels.ghost_name)
+    × ((before.reasons.ghost_name ≡ after.reasons.ghost_name)
+    × ((before.codes.ghost_name ≡ after.codes.ghost_name)
+    × (before.opened.ghost_name ≡ after.opened.ghost_name))))
 
 -- a place for each of n variables in every list
 pub record Lengths (n : ℕ) (values levels reasons trail opened : List ℕ) : Type 0 where

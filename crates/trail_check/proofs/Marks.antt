@@ -10,16 +10,15 @@ use lib.Dec.{ltb, eqb}
 use Rattle.laws.specs.Tests.{and_left}
 use Rattle.laws.specs.Choices.{and_then}
 use Rattle.laws.specs.Lists.{set_cases}
-use Rattle.laws.specs.Every.{Passed, passed_more}
+use Rattle.laws.specs.Every.{every, every_next}
 use Rattle.laws.specs.Some.{some, some_more, every_same}
 use Rattle.lit.specs.Lits.{index, lit_sat}
 use Rattle.trail_check.specs.Check.{stands, Marked, literal_ok, place_ok, held_at, held_ok, covered_at, covered_ok}
 
 -- the first i places pass, and their variables are marked
-pub record Marking (values trail : List ℕ) (len : ℕ) (marks₀ : List Bool) (i : ℕ) (marks : List Bool) : Type 0 where
-  pub passed : Passed (place_ok values trail) len i
+pub record Marking (values trail : List ℕ) (i : ℕ) (marks : List Bool) : Type 0 where
+  pub passed : every (place_ok values trail) i ≡ true
   pub marked : Marked trail i (length values) marks
-  pub same : length marks ≡ length marks₀
 
 mark_more : (trail : List ℕ) (i n : ℕ) (marks : List Bool) → Marked trail i n marks → index (get_or trail i 0) < n → Marked trail (i + 1) n (set marks (index (get_or trail i 0)) true)
 unfolding stands
@@ -34,7 +33,7 @@ mark_more trail i n marks m h =
           (λ e. rw (ne_eqb v w (λ q. e (sym q)), or-false) (m.right w b)));
     }
 
-module _ {values trail : List ℕ} {len : ℕ} {marks₀ : List Bool} {i : ℕ} {marks : List Bool} (m : Marking values trail len marks₀ i marks) where
+module _ {values trail : List ℕ} {i : ℕ} {marks : List Bool} (m : Marking values trail i marks) where
   -- the marks say whether a variable stands before place i
   pub at_place : literal_ok values (get_or trail i 0) (get_or marks (index (get_or trail i 0)) false) ≡ place_ok values trail i
   at_place =
@@ -45,11 +44,10 @@ module _ {values trail : List ℕ} {len : ℕ} {marks₀ : List Bool} {i : ℕ} 
   pub place_var : place_ok values trail i ≡ true → index (get_or trail i 0) < length values
   place_var e = ltb-true _ _ (and_left _ _ e)
 
-  pub mark_place : i < len → place_ok values trail i ≡ true → Marking values trail len marks₀ (i + 1) (set marks (index (get_or trail i 0)) true)
-  mark_place h e = record {
-    passed = passed_more m.passed h e;
+  pub mark_place : place_ok values trail i ≡ true → Marking values trail (i + 1) (set marks (index (get_or trail i 0)) true)
+  mark_place e = record {
+    passed = every_next (place_ok values trail) m.passed e;
     marked = mark_more trail i (length values) marks m.marked (place_var e);
-    same = simp length-set m.same;
   }
 
 -- before the first place nothing is marked, and after the last one the marks say which variables the trail holds

@@ -4,44 +4,45 @@ ghost use Rattle.lit.specs.Lits as lits;
 ghost use Rattle.trail_check.specs.Check as spec;
 
 use lit::{NONE, UNASSIGNED};
-use trail::TrailState;
+use trail::TrailView;
 
-// Whether the counts lie within n places, and `curr_i` on the trail.
-pub fn counts_ok(n: usize, s: TrailState) -> bool
-    ensures { result ≡ spec.counts_ok n s.len s.level s.curr_i }
+// Whether the counts lie within the variables, and `curr_i` on the trail.
+#[tactic(auto, unfolding(crate::specs::Check::counts_ok))]
+pub fn counts_ok(t: TrailView<'_>) -> bool
+    ensures { result ≡ spec.counts_ok (length t.entry.values.now) t.entry.at.len t.entry.at.level t.entry.at.curr_i }
 {
-    s.len as usize <= n && (s.level as usize <= n && s.curr_i <= s.len)
+    let n = t.values.len();
+    t.at.len as usize <= n && (t.at.level as usize <= n && t.at.curr_i <= t.at.len)
 }
 
 // Whether every value is 0, 1 or 2.
+#[tactic(auto, using(laws::specs::Every::every_next, laws::specs::Every::every_not), unfolding(crate::specs::Check::values_ok, laws::specs::Every::every))]
 pub fn values_ok(values: &[u8]) -> bool
     ensures { result ≡ spec.values_ok values.now }
 {
     let mut ok = true;
-    let mut v = 0;
-    while v < values.len() {
-        if values[v] > UNASSIGNED {
+    for value in values {
+        if *value > UNASSIGNED {
             ok = false;
         }
-        v += 1;
     }
     ok
 }
 
 // Whether the variable's reason is NONE, or a clause number and the variable assigned.
-pub fn reason_ok(m: u32, values: &[u8], reasons: &[u32], v: usize) -> bool
-    requires { (v < length values.now) × (v < length reasons.now) }
-    ensures { result ≡ spec.reason_ok m values.now reasons.now v }
+pub fn reason_ok(m: u32, t: TrailView<'_>, v: usize) -> bool
+    requires { (v < length t.values.now) × (v < length t.reasons.now) }
+    ensures { result ≡ spec.reason_ok m t.entry.values.now t.entry.reasons.now v }
 {
-    reasons[v] == NONE || (reasons[v] < m && values[v] < UNASSIGNED)
+    t.reasons[v] == NONE || (t.reasons[v] < m && t.values[v] < UNASSIGNED)
 }
 
 // Whether the opened level lies below the trail length and above the one before it.
-pub fn level_ok(opened: &[u32], len: u32, k: usize) -> bool
-    requires { k < length opened.now }
-    ensures { result ≡ spec.level_ok opened.now len k }
+pub fn level_ok(t: TrailView<'_>, k: usize) -> bool
+    requires { k < length t.opened.now }
+    ensures { result ≡ spec.level_ok t.entry.opened.now t.entry.at.len k }
 {
-    opened[k] < len && (k == 0 || opened[k - 1] < opened[k])
+    t.opened[k] < t.at.len && (k == 0 || t.opened[k - 1] < t.opened[k])
 }
 
 // Whether the literal is of a variable, holds, and its variable is not marked.

@@ -7,215 +7,170 @@ ghost use Rattle.lit.specs.Lits as lits;
 ghost use Rattle.lit.specs.Unused.{unused_ok};
 ghost use Rattle.trail_check.specs.Check as spec;
 ghost use Rattle.trail_check.specs.Check.{Marked};
-ghost use Rattle.trail.specs.Memory.{trail_of, Lengths};
+ghost use Rattle.trail.specs.Memory.{view_in, Sized};
 
 use crate::facts::{counts_ok, covered, level_ok, literal_ok, reason_ok, values_ok};
 use lit::unused_ok;
-use trail::TrailState;
+use trail::TrailView;
 
 pub mod facts;
 
 // Whether every variable's reason is NONE, or a clause number and the variable assigned.
-fn reasons_ok(m: u32, values: &[u8], reasons: &[u32]) -> bool
-    requires { length reasons.now ≡ length values.now }
-    ensures { result ≡ spec.reasons_ok m values.now reasons.now }
+#[tactic(auto, using(laws::specs::Every::every_next, laws::specs::Every::every_not), unfolding(crate::specs::Check::reasons_ok, laws::specs::Every::every))]
+fn reasons_ok(m: u32, t: TrailView<'_>) -> bool
+    requires { length t.reasons.now ≡ length t.values.now }
+    ensures { result ≡ spec.reasons_ok m t.entry.values.now t.entry.reasons.now }
 {
-    let mut v = 0;
-    while v < values.len() {
-        if !reason_ok(m, values, reasons, v) {
+    for v in 0..t.values.len() {
+        if !reason_ok(m, t, v) {
             return false;
         }
-        v += 1;
     }
     true
 }
 
 // Whether every opened level in use lies below the trail length and above the one before it.
-fn opened_ok(opened: &[u32], level: u32, len: u32) -> bool
-    requires { level ≤ length opened.now }
-    ensures { result ≡ spec.opened_ok opened.now level len }
+#[tactic(auto, using(laws::specs::Every::every_next, laws::specs::Every::every_not), unfolding(crate::specs::Check::opened_ok, laws::specs::Every::every))]
+fn opened_ok(t: TrailView<'_>) -> bool
+    requires { t.at.level ≤ length t.opened.now }
+    ensures { result ≡ spec.opened_ok t.entry.opened.now t.entry.at.level t.entry.at.len }
 {
-    let mut k = 0;
-    while k < level {
-        if !level_ok(opened, len, k as usize) {
+    for k in 0..t.at.level {
+        if !level_ok(t, k as usize) {
             return false;
         }
-        k += 1;
     }
     true
 }
 
 // Whether every literal of the trail is of a variable, holds, and is the first of its variable. Marks the variables passed.
-fn places_ok(values: &[u8], trail: &[u32], len: u32, marks: &mut [bool]) -> bool
-    requires len_in_bounds { len ≤ length trail.now }
-    requires marked { Marked trail.now 0 (length values.now) marks.old }
-    ensures value { result ≡ spec.places_ok values.now trail.now len }
-    ensures marked_2 { result ≡ true → Marked trail.now len (length values.now) marks.new }
+fn places_ok(t: TrailView<'_>, marks: &mut [bool]) -> bool
+    requires len_in_bounds { t.at.len ≤ length t.codes.now }
+    requires marked { Marked t.codes.now 0 (length t.values.now) marks.old }
+    ensures value { result ≡ spec.places_ok t.entry.values.now t.entry.codes.now t.entry.at.len }
+    ensures marked_2 { result ≡ true → Marked t.entry.codes.now t.entry.at.len (length t.entry.values.now) marks.new }
 {
-    let mut i = 0;
-    while i < len {
-        let code = trail[i as usize];
-        if !literal_ok(values, marks, code) {
+    for i in 0..t.at.len {
+        let code = t.codes[i as usize];
+        if !literal_ok(t.values, marks, code) {
             return false;
         }
         marks[lit::index(code) as usize] = true;
-        i += 1;
     }
     true
 }
 
 // Whether every variable is unassigned or marked.
+#[tactic(auto, using(laws::specs::Every::every_next, laws::specs::Every::every_not), unfolding(crate::specs::Check::covered_ok, laws::specs::Every::every))]
 fn covered_ok(values: &[u8], marks: &[bool]) -> bool
     requires { length values.now ≤ length marks.now }
     ensures { result ≡ spec.covered_ok values.now marks.now }
 {
     let mut ok = true;
-    let mut v = 0;
-    while v < values.len() {
+    for v in 0..values.len() {
         if !covered(values, marks, v) {
             ok = false;
         }
-        v += 1;
     }
     ok
 }
 
 // Whether the trail holds literals of variables that hold, each assigned variable once. No variable is marked.
-fn check_marked(values: &[u8], trail: &[u32], len: u32, marks: &mut [bool]) -> bool
-    requires len_in_bounds { len ≤ length trail.now }
-    requires marked { Marked trail.now 0 (length values.now) marks.old }
-    ensures { let held = values.now in
-        let codes = trail.now in
-        result ≡ (spec.places_ok held codes len && spec.held_ok held codes len) }
+fn check_marked(t: TrailView<'_>, marks: &mut [bool]) -> bool
+    requires len_in_bounds { t.at.len ≤ length t.codes.now }
+    requires marked { Marked t.codes.now 0 (length t.values.now) marks.old }
+    ensures { let held = t.entry.values.now in
+        let codes = t.entry.codes.now in
+        result ≡ (spec.places_ok held codes t.entry.at.len && spec.held_ok held codes t.entry.at.len) }
 {
-    if !places_ok(values, trail, len, marks) {
-        return false;
-    }
-    covered_ok(values, marks)
+    places_ok(t, marks) && covered_ok(t.values, marks)
 }
 
 // At most so many variables are few: a short array of marks is enough for them.
 const FEW: usize = 64;
 
 // The same, with marks set up for it.
-fn check_places(values: &[u8], trail: &[u32], len: u32) -> bool
-    requires { (length values.now ≤ number.max_vars) × (len ≤ length trail.now) }
-    ensures { let held = values.now in
-        let codes = trail.now in
-        result ≡ (spec.places_ok held codes len && spec.held_ok held codes len) }
+fn check_places(t: TrailView<'_>) -> bool
+    requires { (length t.values.now ≤ number.max_vars) × (t.at.len ≤ length t.codes.now) }
+    ensures { let held = t.entry.values.now in
+        let codes = t.entry.codes.now in
+        result ≡ (spec.places_ok held codes t.entry.at.len && spec.held_ok held codes t.entry.at.len) }
 {
-    if values.len() <= FEW {
+    if t.values.len() <= FEW {
         let mut few = [false; FEW];
-        return check_marked(values, trail, len, &mut few);
+        return check_marked(t, &mut few);
     }
     let mut marks = [false; lit::MAX_VARS as usize];
-    check_marked(values, trail, len, &mut marks)
+    check_marked(t, &mut marks)
 }
 
 // Whether the trail variables from place `from` up to `to` have level l.
-fn row_ok(levels: &[u32], trail: &[u32], from: u32, to: u32, l: u32) -> bool
-    requires to_in_bounds { to ≤ length trail.now }
-    requires by_index { (i : ℕ) → i < to → lits.index (get_or trail.now i 0) < length levels.now }
-    ensures { result ≡ spec.row_ok levels.now trail.now from to l }
+fn row_ok(t: TrailView<'_>, from: u32, to: u32, l: u32) -> bool
+    requires to_in_bounds { to ≤ length t.codes.now }
+    requires by_index { (i : ℕ) → i < to → lits.index (get_or t.codes.now i 0) < length t.levels.now }
+    ensures { result ≡ spec.row_ok t.entry.levels.now t.entry.codes.now from to l }
 {
-    let mut i = from;
-    while i < to {
-        let v = lit::index(trail[i as usize]) as usize;
-        if levels[v] != l {
+    for i in from..to {
+        let v = lit::index(t.codes[i as usize]) as usize;
+        if t.levels[v] != l {
             return false;
         }
-        i += 1;
     }
     true
 }
 
 // Whether every trail variable has the level of its place: row by row, from where a level was opened up to the next.
-fn levels_ok(levels: &[u32], trail: &[u32], opened: &[u32], level: u32, len: u32) -> bool
-    requires len_in_bounds { (len ≤ length trail.now) × (level ≤ length opened.now) }
-    requires by_index { (i : ℕ) → i < len → lits.index (get_or trail.now i 0) < length levels.now }
-    requires len_value { spec.opened_ok opened.now level len ≡ true }
-    ensures { result ≡ spec.levels_ok levels.now trail.now opened.now level len }
+fn levels_ok(t: TrailView<'_>) -> bool
+    requires len_in_bounds { (t.at.len ≤ length t.codes.now) × (t.at.level ≤ length t.opened.now) }
+    requires by_index { (i : ℕ) → i < t.at.len → lits.index (get_or t.codes.now i 0) < length t.levels.now }
+    requires len_value { spec.opened_ok t.opened.now t.at.level t.at.len ≡ true }
+    ensures { result ≡ spec.levels_ok t.entry.levels.now t.entry.codes.now t.entry.opened.now t.entry.at.level t.entry.at.len }
 {
     let mut from = 0;
-    let mut l = 0;
-    while l < level {
-        let to = opened[l as usize];
-        if !row_ok(levels, trail, from, to, l) {
+    for l in 0..t.at.level {
+        let to = t.opened[l as usize];
+        if !row_ok(t, from, to, l) {
             return false;
         }
         from = to;
-        l += 1;
     }
-    row_ok(levels, trail, from, len, level)
+    row_ok(t, from, t.at.len, t.at.level)
 }
 
 // Whether every variable has a good value and a good reason. Where no variable has a reason, every reason is good.
-fn check_variables(m: u32, values: &[u8], reasons: &[u32]) -> bool
-    requires { length reasons.now ≡ length values.now }
-    ensures { let held = values.now in
-        result ≡ (spec.values_ok held && spec.reasons_ok m held reasons.now) }
+fn check_variables(m: u32, t: TrailView<'_>) -> bool
+    requires { length t.reasons.now ≡ length t.values.now }
+    ensures { let held = t.entry.values.now in
+        result ≡ (spec.values_ok held && spec.reasons_ok m held t.entry.reasons.now) }
 {
-    if !values_ok(values) {
-        return false;
-    }
-    if unused_ok(reasons, 0) {
-        return true;
-    }
-    reasons_ok(m, values, reasons)
+    values_ok(t.values) && (unused_ok(t.reasons, 0) || reasons_ok(m, t))
 }
 
 // Whether the places of the trail and of the opened levels that are not in use hold NONE.
-fn check_unused(trail: &[u32], len: u32, opened: &[u32], level: u32) -> bool
-    requires { (len ≤ length trail.now) × (level ≤ length opened.now) }
-    ensures { result ≡ (unused_ok trail.now len && unused_ok opened.now level) }
+fn check_unused(t: TrailView<'_>) -> bool
+    requires { (t.at.len ≤ length t.codes.now) × (t.at.level ≤ length t.opened.now) }
+    ensures { result ≡ (unused_ok t.entry.codes.now t.entry.at.len && unused_ok t.entry.opened.now t.entry.at.level) }
 {
-    if !unused_ok(trail, len) {
-        return false;
-    }
-    unused_ok(opened, level)
+    unused_ok(t.codes, t.at.len) && unused_ok(t.opened, t.at.level)
 }
 
 // Whether the opened levels rise within the trail, and the trail variables' levels follow them.
-fn check_levels(levels: &[u32], trail: &[u32], opened: &[u32], level: u32, len: u32) -> bool
-    requires len_in_bounds { (len ≤ length trail.now) × (level ≤ length opened.now) }
-    requires by_index { (i : ℕ) → i < len → lits.index (get_or trail.now i 0) < length levels.now }
-    ensures { let places = opened.now in
-        result ≡ (spec.opened_ok places level len && spec.levels_ok levels.now trail.now places level len) }
+fn check_levels(t: TrailView<'_>) -> bool
+    requires len_in_bounds { (t.at.len ≤ length t.codes.now) × (t.at.level ≤ length t.opened.now) }
+    requires by_index { (i : ℕ) → i < t.at.len → lits.index (get_or t.codes.now i 0) < length t.levels.now }
+    ensures { let places = t.entry.opened.now in
+        result ≡ (spec.opened_ok places t.entry.at.level t.entry.at.len && spec.levels_ok t.entry.levels.now t.entry.codes.now places t.entry.at.level t.entry.at.len) }
 {
-    if !opened_ok(opened, level, len) {
-        return false;
-    }
-    levels_ok(levels, trail, opened, level, len)
+    opened_ok(t) && levels_ok(t)
 }
 
-// Whether the memory is a good trail over values.len() variables and m clauses.
-pub fn check_trail(
-    m: u32,
-    values: &[u8],
-    levels: &[u32],
-    reasons: &[u32],
-    trail: &[u32],
-    opened: &[u32],
-    s: TrailState,
-) -> bool
-    requires lengths { Lengths (length values.now) values.now levels.now reasons.now trail.now opened.now }
-    requires values_len_bound { length values.now ≤ number.max_vars }
-    ensures { let t = trail_of values.now levels.now reasons.now trail.now opened.now s in
-        result ≡ spec.trail_ok m t }
+// Whether the memory is a good trail over so many variables as it has values, and m clauses.
+#[tactic(auto, unfolding(crate::specs::Check::trail_ok))]
+pub fn check_trail(m: u32, t: TrailView<'_>) -> bool
+    requires lengths { Sized (length t.values.now) (view_in t) }
+    requires values_len_bound { length t.values.now ≤ number.max_vars }
+    ensures { result ≡ spec.trail_ok m (view_in t.entry) }
 {
-    let len = s.len;
-    let level = s.level;
-    if !counts_ok(values.len(), s) {
-        return false;
-    }
-    if !check_variables(m, values, reasons) {
-        return false;
-    }
-    if !check_unused(trail, len, opened, level) {
-        return false;
-    }
-    if !check_places(values, trail, len) {
-        return false;
-    }
-    check_levels(levels, trail, opened, level, len)
+    counts_ok(t)
+        && (check_variables(m, t) && (check_unused(t) && (check_places(t) && check_levels(t))))
 }

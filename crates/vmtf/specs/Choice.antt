@@ -2,24 +2,22 @@
 use Prim.Native.Nat.{ℕ, ◌<◌}
 use Rattle.std.specs.Prelude.{◌≡◌, ◌↔◌, true, false, List, length, get_or, eqb}
 use Rattle.std.proofs.Math.Path.{refl}
-use Rattle.std.proofs.Common.{sym, subst, ◌∙◌, arith, ltb-true, leb-true, leb-false, lt-ltb, le-ltb}
+use Rattle.std.proofs.Common.{sym, ap, subst, ◌∙◌, arith, ltb-true, leb-true, leb-false, lt-ltb, le-ltb}
 use Rattle.std.proofs.Math.Bool.{false≢true}
 use Rattle.std.proofs.lemmas.Bool.{eqb-false, lt-leb}
 use Rattle.laws.specs.Tests.{cond_elim, not_true}
 use Rattle.lit.specs.Numbers.{NONE, unassigned}
 use Rattle.lit.specs.Lits.{is_assigned}
-use Rattle.vmtf.specs.declared.Next.{Next}
-use Rattle.vmtf.specs.declared.Next.TheVariants.{Chose, Nothing, Stuck}
-use Rattle.vmtf.specs.Vmtf.{Vmtf, vmtf_of, past, is_open, from, first_open, any_open, get_next}
+use Rattle.vmtf.specs.Vmtf.{Vmtf, past, is_open, from, first_open, any_open, Found, chose, nothing, stuck, get_next}
 use Rattle.vmtf.specs.Laws.{found, any_open_lem, none_open}
 use Rattle.vmtf.specs.Good.{GoodList, good_safe, good_ends}
 
 -- what a reply says: the variable chosen is unassigned, and the list is as good as before with search behind it;
 -- no variable is unassigned; or some variable is
-abbrev pub NextIs : ℕ → List ℕ → List ℕ → Vmtf → Next → Type 0
-NextIs n order values l (Chose s v) = (v < n) × (is_assigned values v ≡ false) × GoodList n order (vmtf_of l.next l.prev l.ts s)
-NextIs n order values l Nothing = (v : ℕ) → v < n → is_assigned values v ≡ true
-NextIs n order values l Stuck = ¬ ((v : ℕ) → v < n → is_assigned values v ≡ true)
+abbrev pub NextIs : ℕ → List ℕ → List ℕ → Vmtf → Found → Type 0
+NextIs n order values l (chose v m) = (v < n) × (is_assigned values v ≡ false) × (GoodList n order m × (m ≡ past v l))
+NextIs n order values l (nothing m) = (m ≡ l) × ((v : ℕ) → v < n → is_assigned values v ≡ true)
+NextIs n order values l stuck = ¬ ((v : ℕ) → v < n → is_assigned values v ≡ true)
 
 -- open is unassigned
 open_unassigned : (values : List ℕ) (v : ℕ) → is_open values v ≡ true → is_assigned values v ≡ false
@@ -36,7 +34,7 @@ assigned_shut values v e = lt-leb unassigned (get_or values v 0) (ltb-true (get_
 
 module _ {n : ℕ} {order : List ℕ} {l : Vmtf} (g : GoodList n order l) (values : List ℕ) (long : length values ≡ n) where
   -- search moves, and nothing else
-  past_good : (v : ℕ) → v < n → GoodList n order (vmtf_of l.next l.prev l.ts (past v l))
+  past_good : (v : ℕ) → v < n → GoodList n order (past v l)
   past_good v h =
       let k = g.linked in
       record {
@@ -53,17 +51,17 @@ module _ {n : ℕ} {order : List ℕ} {l : Vmtf} (g : GoodList n order l) (value
       cond_elim (NextIs n order values l) (eqb v NONE)
       (λ _. cond_elim (NextIs n order values l) (any_open values (length values))
       (λ e all. false≢true (sym (none_open values (length values) (λ w h. assigned_shut values w (all w (omega arith)))) ∙ e))
-      (λ e w h. shut_assigned values w (not_true (is_open values w) (λ o. false≢true (sym e ∙ any_open_lem values (length values) w (omega arith) o)))))
+      (λ e. (refl, λ w h. shut_assigned values w (not_true (is_open values w) (λ o. false≢true (sym e ∙ any_open_lem values (length values) w (omega arith) o))))))
       (λ e.
       let r = found (good_ends g) values v refl (eqb-false v NONE e) in
       let h : v < n = omega (arith, r.0, g.linked.next_long) in
-      (h, open_unassigned values v r.1, past_good v h))
+      (h, open_unassigned values v r.1, (past_good v h, refl)))
 
   -- none exactly when no variable is unassigned
-  pub nothing_exactly : (get_next values l ≡ Nothing) ↔ ((v : ℕ) → v < n → is_assigned values v ≡ true)
-  nothing_exactly = (λ e. subst (NextIs n order values l) e next_right, only (get_next values l) next_right)
+  pub nothing_exactly : (get_next values l ≡ nothing l) ↔ ((v : ℕ) → v < n → is_assigned values v ≡ true)
+  nothing_exactly = (λ e. (subst (NextIs n order values l) e next_right).1, only (get_next values l) next_right)
     where
-      only : (r : Next) → NextIs n order values l r → ((v : ℕ) → v < n → is_assigned values v ≡ true) → r ≡ Nothing
-      only (Chose s v) h all = absurd (false≢true (sym h.1 ∙ all v h.0))
-      only Nothing h all = refl
-      only Stuck h all = absurd (h all)
+      only : (r : Found) → NextIs n order values l r → ((v : ℕ) → v < n → is_assigned values v ≡ true) → r ≡ nothing l
+      only (chose v m) h all = absurd (false≢true (sym h.1 ∙ all v h.0))
+      only (nothing m) h all = ap nothing h.0
+      only stuck h all = absurd (h all)

@@ -1,14 +1,15 @@
 -- The move-to-front list's memory and the steps of `VMTF` in `decision.rs` on it: plain writes to three lists of length N and three
 -- numbers. NONE marks no variable.
-use Rattle.std.specs.Prelude.{ℕ, zero, suc, ◌+◌, ◌<◌, ◌≤◌, ◌≡◌, ◌≢◌, Bool, false, cond, ◌&&◌, ◌||◌, List, [], ◌∷◌, map, length, get_or, set, replicate, leb, ltb, eqb}
+use Rattle.std.specs.Prelude.{ℕ, zero, suc, ◌+◌, ◌<◌, ◌≤◌, ◌≡◌, ◌≢◌, Bool, false, cond, ◌&&◌, ◌||◌, List, [], ◌∷◌, map, length, get_or, set, replicate, leb, ltb, eqb, Option, None, Some, Result, Ok, Err}
 use Rattle.lit.specs.Numbers.{NONE, unassigned}
 use Rattle.lit.specs.Lits.{index}
+use Rattle.lit.specs.declared.Refusal.{Refusal}
 use Rattle.laws.specs.InPlace.{up_to}
 use Rattle.util.specs.Rising.{VarByStamp}
 use Rattle.util.specs.SortReverse.{sort_reverse}
 use Rattle.vmtf.specs.declared.VmtfState.{VmtfState}
-use Rattle.vmtf.specs.declared.Next.{Next}
-use Rattle.vmtf.specs.declared.Next.TheVariants.{Chose, Nothing, Stuck}
+use Rattle.vmtf.specs.declared.Vmtf as lent
+use Rattle.vmtf.specs.declared.VmtfView.{VmtfView}
 
 pub record Vmtf : Type 0 where
   -- `linked_list`: for each variable the one after it, the one before it, and its stamp
@@ -22,6 +23,17 @@ pub record Vmtf : Type 0 where
 
 abbrev pub vmtf_of : List ℕ → List ℕ → List ℕ → VmtfState → Vmtf
 vmtf_of next prev ts s = record { next = next; prev = prev; ts = ts; start = s.start; search = s.search; timestamp = s.timestamp }
+
+-- the list in slices that were lent, and as it is seen
+abbrev pub vmtf_in : lent.Vmtf → Vmtf
+vmtf_in l = vmtf_of l.next.now l.prev.now l.ts.now l.at
+
+abbrev pub vmtf_seen : VmtfView → Vmtf
+vmtf_seen l = vmtf_of l.next.now l.prev.now l.ts.now l.at
+
+-- the list holds the same slices as before
+abbrev pub SameSlices : lent.Vmtf → lent.Vmtf → Type 0
+SameSlices a b = (a.next.ghost_name ≡ b.next.ghost_name) × (a.prev.ghost_name ≡ b.prev.ghost_name) × (a.ts.ghost_name ≡ b.ts.ghost_name)
 
 -- `usize::MAX` of the source as a stamp, in 64 bits
 abbrev pub max_stamp : ℕ
@@ -44,7 +56,7 @@ first vs = get_or vs 0 NONE
 abbrev with_links : List ℕ → List ℕ → Vmtf → Vmtf
 with_links next prev l = record { next = next; prev = prev; ts = l.ts; start = l.start; search = l.search; timestamp = l.timestamp }
 
-abbrev with_stamps : List ℕ → ℕ → Vmtf → Vmtf
+abbrev pub with_stamps : List ℕ → ℕ → Vmtf → Vmtf
 with_stamps ts timestamp l = record { next = l.next; prev = l.prev; ts = ts; start = l.start; search = l.search; timestamp = timestamp }
 
 -- a turn of the loop of `make_linked_list`: v comes after p and before q, with the stamp k
@@ -140,15 +152,31 @@ unfoldable pub any_open : List ℕ → ℕ → Bool
 any_open values zero = false
 any_open values (suc n) = any_open values n || is_open values n
 
--- the state once v is found: search is at the one after v
-abbrev pub past : ℕ → Vmtf → VmtfState
-past v l = record { start = l.start; search = get_or l.next v 0; timestamp = l.timestamp }
+-- the list once v is found: search is at the one after v
+abbrev pub past : ℕ → Vmtf → Vmtf
+past v l = record { next = l.next; prev = l.prev; ts = l.ts; start = l.start; search = get_or l.next v 0; timestamp = l.timestamp }
+
+-- what a decide finds: a variable, with the list that it leaves; no unassigned variable; or none from search on, though there is one
+pub data Found : Type 0 where
+  chose : ℕ → Vmtf → Found
+  nothing : Vmtf → Found
+  stuck : Found
 
 -- `get_next`: the first open variable from search on. Where there is none but some variable is open the source panics
-unfoldable pub get_next : List ℕ → Vmtf → Next
+unfoldable pub get_next : List ℕ → Vmtf → Found
 get_next values l =
     let v = first_open values (from l.next (length l.next) l.search) in
-    cond (eqb v NONE) (cond (any_open values (length values)) Stuck Nothing) (Chose (past v l) v)
+    cond (eqb v NONE) (cond (any_open values (length values)) stuck (nothing l)) (chose v (past v l))
+
+-- the code's answer with the list that it leaves
+abbrev pub found_of : Result (Option ℕ) Refusal → Vmtf → Found
+found_of (Ok (Some v)) l = chose v l
+found_of (Ok None) l = nothing l
+found_of (Err e) l = stuck
+
+-- what a number marks: a variable, or none
+abbrev pub marked : ℕ → Option ℕ
+marked v = cond (eqb v NONE) None (Some v)
 
 -- the check of a lent list. c may come after p in the list where the stamp before it is b
 unfoldable pub stands : Vmtf → ℕ → ℕ → ℕ → Bool
@@ -162,6 +190,10 @@ check_row l (suc k) p b c = let r = check_row l k c (get_or l.ts c 0) (get_or l.
 -- all variables stand in a row from the front on, below the timestamp, and search is a variable or NONE
 unfoldable pub check_list : Vmtf → Bool
 check_list l = check_row l (length l.next) NONE l.timestamp l.start && (eqb l.search NONE || ltb l.search (length l.next))
+
+-- the slices have one length
+abbrev pub Even : Vmtf → Type 0
+Even l = (length l.prev ≡ length l.next) × (length l.ts ≡ length l.next)
 
 -- What safety needs of a walk along the next links from curr: links are variables or NONE.
 pub record Links (n : ℕ) (next : List ℕ) (curr : ℕ) : Type 0 where

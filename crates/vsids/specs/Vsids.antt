@@ -10,8 +10,6 @@ use Rattle.activity.specs.Step.{fresh_step, scale_all, scaled, decayed, with_dec
 use Rattle.heap.specs.Heap.{comes_first, Places, places_of, in_heap, decrease, remove_min, build}
 use Rattle.heap.specs.Heap as moves
 use Rattle.vsids.specs.declared.VsidsState.{VsidsState}
-use Rattle.vsids.specs.declared.Next.{Next}
-use Rattle.vsids.specs.declared.Next.TheVariants.{Chose, Nothing}
 
 pub record Vsids : Type 0 where
   -- for each variable its activity, the members, and for each variable its position and its switch
@@ -70,11 +68,6 @@ get_next_of (suc k) values h =
 
 unfoldable pub get_next : List ℕ → Vsids → Found
 get_next values h = get_next_of h.len values h
-
--- the code's answer with the memory it leaves
-abbrev pub found_of : List Float → List ℕ → List ℕ → List ℕ → Next → Found
-found_of a h p d (Chose v s) = chose v (vsids_of a h p d s)
-found_of a h p d (Nothing s) = nothing (vsids_of a h p d s)
 
 -- `bump_variable`: the step is added with one rounding; strictly above 1e100 all is scaled once; then a member moves up
 unfoldable pub add_step : ℕ → Vsids → Vsids

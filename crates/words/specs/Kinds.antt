@@ -1,10 +1,13 @@
 -- What holds of the kind of a letter, by the letter. Assumes nothing.
-use Rattle.std.specs.Prelude.{ℕ, ◌<◌, ◌≡◌, refl, true, false, cond, List, eqb}
+use Rattle.std.specs.Prelude.{ℕ, ◌<◌, ◌≡◌, ◌≢◌, refl, true, false, cond, List, eqb}
 use Rattle.std.proofs.Math.Option.{none}
 use Rattle.std.proofs.Common.{arith, eqb-true, eq-eqb, ne_eqb}
 use Rattle.laws.specs.Tests.{cond_elim, and_false}
 use Rattle.forms.specs.Letters.{bump_letter, decay_letter, set_decay_letter, insert_letter, switch_off_letter, decide_letter, enqueue_letter, learn_unit_letter, go_back_letter, bump_reason_letter, group_letter, clause_letter, first_letter}
 use Rattle.forms.specs.Forms.{Kind, kind_of, bumps, decays, sets_decay, inserts, switches_off, decides, enqueues, learns_unit, goes_back, bumps_reason, moves_group, is_clause, is_first, is_other}
+use Rattle.forms.specs.declared.table.Kind as code
+use Rattle.forms.specs.declared.table.Kind.TheVariants as a_kind
+use Rattle.forms.specs.Kinds.{kind_in}
 use Rattle.forms.specs.Read.{numbered}
 use Rattle.words.specs.Words.{kind_call}
 
@@ -46,47 +49,45 @@ module _ (P : Kind → Type 0) (b : ℕ) where
       either clause_letter (λ e. k.clause) (
       either first_letter (λ e. k.first) k.other))))))))))))
 
--- a letter that takes two words is another: the second word is to be 0
-module _ (vars : List ℕ) (letter a b : ℕ) (no-enqueue : letter ≡ enqueue_letter → ⊥) (no-set-decay : letter ≡ set_decay_letter → ⊥) (no-group : letter ≡ group_letter → ⊥) where
-  pub second_taken : (b ≡ 0 → ⊥) → kind_call vars (kind_of letter) a b ≡ none
-  second_taken z =
-      let f : eqb b 0 ≡ false = ne_eqb b 0 z in
-      by_kind (λ (k : Kind). kind_call vars k a b ≡ none) letter (record {
-        bump = λ e. rw f;
-        decay = λ e. rw (f, and_false);
-        set_decay_lem = λ e. absurd (no-set-decay e);
-        insert = λ e. rw f;
-        switch_off = λ e. rw f;
-        decide = λ e. rw f;
-        enqueue = λ e. absurd (no-enqueue e);
-        learn_unit_lem = λ e. rw f;
-        go_back = λ e. rw f;
-        bump_reason = λ e. rw f;
-        group = λ e. absurd (no-group e);
-        clause = refl;
-        first = refl;
-        other = refl;
-      })
+-- a call that takes one word: the second is to be 0
+module _ (vars : List ℕ) (a b : ℕ) where
+  pub second_taken : (b ≢ 0) → (k : code.Kind) → (k ≢ a_kind.Enqueues) → (k ≢ a_kind.SetsDecay) → (k ≢ a_kind.MovesGroup) → kind_call vars (kind_in k) a b ≡ none
+  second_taken z k e w g = taken (ne_eqb b 0 z) k e w g
+    where
+      taken : eqb b 0 ≡ false → (k : code.Kind) → (k ≢ a_kind.Enqueues) → (k ≢ a_kind.SetsDecay) → (k ≢ a_kind.MovesGroup) → kind_call vars (kind_in k) a b ≡ none
+      taken f a_kind.Bumps e w g = rw f
+      taken f a_kind.Decays e w g = rw (f, and_false)
+      taken f a_kind.SetsDecay e w g = absurd (w refl)
+      taken f a_kind.Inserts e w g = rw f
+      taken f a_kind.SwitchesOff e w g = rw f
+      taken f a_kind.Decides e w g = rw f
+      taken f a_kind.Enqueues e w g = absurd (e refl)
+      taken f a_kind.LearnsUnit e w g = rw f
+      taken f a_kind.GoesBack e w g = rw f
+      taken f a_kind.BumpsReason e w g = rw f
+      taken f a_kind.MovesGroup e w g = absurd (g refl)
+      taken f a_kind.Clause e w g = refl
+      taken f a_kind.First e w g = refl
+      taken f a_kind.Other e w g = refl
 
-  pub one_taken : b ≡ 0 → (letter ≡ decay_letter → ⊥) → kind_call vars (kind_of letter) a b ≡ numbered (kind_of letter) a
-  one_taken z no-decay =
-      let t : eqb b 0 ≡ true = eq-eqb b 0 z in
-      by_kind (λ (k : Kind). kind_call vars k a b ≡ numbered k a) letter (record {
-        bump = λ e. rw t;
-        decay = λ e. absurd (no-decay e);
-        set_decay_lem = λ e. absurd (no-set-decay e);
-        insert = λ e. rw t;
-        switch_off = λ e. rw t;
-        decide = λ e. rw t;
-        enqueue = λ e. absurd (no-enqueue e);
-        learn_unit_lem = λ e. rw t;
-        go_back = λ e. rw t;
-        bump_reason = λ e. rw t;
-        group = λ e. absurd (no-group e);
-        clause = refl;
-        first = refl;
-        other = refl;
-      })
+  pub one_taken : b ≡ 0 → (k : code.Kind) → (k ≢ a_kind.Enqueues) → (k ≢ a_kind.SetsDecay) → (k ≢ a_kind.MovesGroup) → (k ≢ a_kind.Decays) → kind_call vars (kind_in k) a b ≡ numbered (kind_in k) a
+  one_taken z k e w g d = taken (eq-eqb b 0 z) k e w g d
+    where
+      taken : eqb b 0 ≡ true → (k : code.Kind) → (k ≢ a_kind.Enqueues) → (k ≢ a_kind.SetsDecay) → (k ≢ a_kind.MovesGroup) → (k ≢ a_kind.Decays) → kind_call vars (kind_in k) a b ≡ numbered (kind_in k) a
+      taken t a_kind.Bumps e w g d = rw t
+      taken t a_kind.Decays e w g d = absurd (d refl)
+      taken t a_kind.SetsDecay e w g d = absurd (w refl)
+      taken t a_kind.Inserts e w g d = rw t
+      taken t a_kind.SwitchesOff e w g d = rw t
+      taken t a_kind.Decides e w g d = rw t
+      taken t a_kind.Enqueues e w g d = absurd (e refl)
+      taken t a_kind.LearnsUnit e w g d = rw t
+      taken t a_kind.GoesBack e w g d = rw t
+      taken t a_kind.BumpsReason e w g d = rw t
+      taken t a_kind.MovesGroup e w g d = absurd (g refl)
+      taken t a_kind.Clause e w g d = refl
+      taken t a_kind.First e w g d = refl
+      taken t a_kind.Other e w g d = refl
 
 -- no letter is above the bytes
 pub no_letter : (vars : List ℕ) (letter a b : ℕ) → 255 < letter → kind_call vars (kind_of letter) a b ≡ none

@@ -1,46 +1,18 @@
 // Calls and answers in words: three words to a call, two to an answer.
 #![tactic(auto)]
 
-ghost use Rattle.std.specs.Prelude.{◌≡◌, List, ℕ, ◌+◌, ◌*◌, ◌≤◌, leb, length, set, ◌&&◌};
+ghost use Rattle.std.specs.Prelude.{◌≡◌, ◌+◌, ◌*◌, ◌≤◌, leb, length, set, ◌&&◌};
 ghost use Rattle.std.specs.Float.{binary64};
 ghost use Rattle.std.specs.Float.Ieee.{of_bits};
 ghost use Rattle.lit.specs.Numbers as number;
-ghost use Rattle.forms.specs.Forms.{kind_of};
-ghost use Rattle.forms.specs.Read.{numbered};
-ghost use Rattle.words.specs.Words.{high_half, words_fit};
+ghost use Rattle.forms.specs.Kinds.{kind_in};
+ghost use Rattle.words.specs.Words.{high_half, kind_call, words_fit};
 ghost use Rattle.words.specs.Read.{said_call, fits_in, WordsRead};
 
-use forms::letters::{
-    BUMP, BUMP_REASON, DECAY, DECIDE, ENQUEUE, GO_BACK, GROUP, INSERT, LEARN_UNIT, SET_DECAY,
-    SWITCH_OFF,
-};
+use forms::table::Kind;
+use forms::{Asked, with_number};
 use lit::MAX_GROUP;
 use session::Call;
-
-// What three words say: no call, a call, or a group whose variables stand in the lent slice.
-#[derive(Clone, Copy)]
-pub enum Said {
-    Bad,
-    Is(Call),
-    Group,
-}
-
-// The call of a letter that takes one number.
-fn with_number(letter: u8, a: u32) -> Said
-    ensures by_index { (vars : List ℕ) (x y : ℕ) → said_call vars x y result ≡ numbered (kind_of letter) a }
-    ensures by_index_2 { (vars : List ℕ) (x y : ℕ) → fits_in vars x y result }
-{
-    match letter {
-        BUMP => Said::Is(Call::Bump(a)),
-        INSERT => Said::Is(Call::Insert(a)),
-        SWITCH_OFF => Said::Is(Call::SwitchOff(a)),
-        DECIDE => Said::Is(Call::Decide(a)),
-        LEARN_UNIT => Said::Is(Call::LearnUnit(a)),
-        GO_BACK => Said::Is(Call::GoBack(a)),
-        BUMP_REASON => Said::Is(Call::BumpReason(a)),
-        _ => Said::Bad,
-    }
-}
 
 // The high half of a pattern counts so many.
 const HIGH_HALF: u64 = 4294967296;
@@ -59,42 +31,33 @@ fn within(len: usize, from: u32, count: u32) -> bool
     count <= MAX_GROUP && from as usize + count as usize <= len
 }
 
-// The call of a letter and two words.
-fn read_letter(vars: &[u32], letter: u8, a: u32, b: u32) -> Said
-    ensures { WordsRead vars.now letter a b result }
+// The call of a kind and two words: a group's variables stand in the lent slice, and a word that a call does not take is 0.
+fn read_kind(vars: &[u32], kind: Kind, a: u32, b: u32) -> Option<Asked>
+    ensures is { said_call vars.now a b result ≡ kind_call vars.now (kind_in kind) a b }
+    ensures within { fits_in vars.now a b result }
 {
-    if letter == ENQUEUE {
-        return Said::Is(Call::Enqueue(a, b));
-    }
-    if letter == SET_DECAY {
-        return Said::Is(Call::SetDecay(double(a, b)));
-    }
-    if letter == GROUP {
-        if within(vars.len(), a, b) {
-            return Said::Group;
+    match kind {
+        Kind::Enqueues => Some(Asked::Is(Call::Enqueue(a, b))),
+        Kind::SetsDecay => Some(Asked::Is(Call::SetDecay(double(a, b)))),
+        Kind::MovesGroup => within(vars.len(), a, b).then_some(Asked::Group),
+        Kind::Decays => (a == 0 && b == 0).then_some(Asked::Is(Call::Decay)),
+        _ => {
+            if b != 0 {
+                return None;
+            }
+            with_number(kind, a).map(Asked::Is)
         }
-        return Said::Bad;
     }
-    if b != 0 {
-        return Said::Bad;
-    }
-    if letter == DECAY {
-        if a == 0 {
-            return Said::Is(Call::Decay);
-        }
-        return Said::Bad;
-    }
-    with_number(letter, a)
 }
 
 // The call of three words.
-pub fn read_words(vars: &[u32], letter: u32, a: u32, b: u32) -> Said
+pub fn read_words(vars: &[u32], letter: u32, a: u32, b: u32) -> Option<Asked>
     ensures { WordsRead vars.now letter a b result }
 {
-    if letter > 255 {
-        return Said::Bad;
-    }
-    read_letter(vars, letter as u8, a, b)
+    let Ok(letter) = u8::try_from(letter) else {
+        return None;
+    };
+    read_kind(vars, Kind::of(letter), a, b)
 }
 
 // Writes the i-th answer.

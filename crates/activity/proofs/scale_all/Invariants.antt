@@ -1,12 +1,8 @@
-use Prim.Native.Nat.{◌≤◌, ◌-◌}
-use mathlib.Core.Path.{◌≡◌}
-use lib.ListN.{length}
+use Rattle.std.proofs.Common.{◌≡◌}
 use Rattle.laws.specs.InPlace.{mapped}
 use Rattle.activity.specs.Step.{scale}
 use Rattle.activity.proofs.scale_all.Given as goal
 
-abbrev pub invariant-loop-i : goal.invariant-loop-i
-invariant-loop-i l = (l.i ≤ length l.initial.activity) × (length l.activity ≡ length l.initial.activity) × (l.activity ≡ mapped scale l.initial.activity l.i)
-
-abbrev pub decreases-loop-i : goal.decreases-loop-i
-decreases-loop-i l = length l.initial.activity - l.i
+-- the activities passed so far are scaled, the others as they were
+abbrev pub invariant-loop-x : goal.invariant-loop-x
+invariant-loop-x l = l.activity ≡ mapped scale l.initial.activity l.x-index

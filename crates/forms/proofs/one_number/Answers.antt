@@ -1,7 +1,7 @@
 -- `forms::one_number` meets its contract: behind the tab stands one field, or a tab that no number takes.
 use Rattle.std.proofs.Common.{ℕ, ◌≤◌, List, length, sym, refl, ap, ◌∙◌}
 use Rattle.forms.specs.Text.{number}
-use Rattle.forms.specs.TextRead.{whole_of}
+use Rattle.laws.specs.Options.{as_code}
 use Rattle.forms.specs.Forms.{one}
 use Rattle.forms.specs.Behind.{tabbed_long, untabbed}
 use Rattle.lit.specs.Numbers.{NONE}
@@ -12,7 +12,7 @@ use Rattle.forms.proofs.one_number.Goals as goal
 use Rattle.forms.proofs.one_number.Goals.{Else-not-has_fields}
 
 pub returns-then-not-has_fields : goal.returns-then-not-has_fields
-returns-then-not-has_fields c = sym (ap whole_of (untabbed c.args.line.now (one number) refl (sym c.has_fields.ensures ∙ c.if-not-has_fields.true)))
+returns-then-not-has_fields c = sym (ap as_code (untabbed c.args.line.now (one number) refl (sym c.has_fields.ensures ∙ c.if-not-has_fields.true)))
 
 long : (c : Else-not-has_fields) → 2 ≤ length c.args.line.now
 long c = tabbed_long c.args.line.now (sym c.has_fields.ensures ∙ c.if-not-has_fields.false)
@@ -27,5 +27,5 @@ pub returns : goal.returns
 returns c =
     let line = c.args.line.now in
     c.number.ensures
-    ∙ ap (λ (bs : List ℕ). whole_of (number bs)) (to_end 2 line)
-    ∙ sym (ap whole_of (one_behind line (sym c.has_fields.ensures ∙ c.if-not-has_fields.false) number (number_tab NONE)))
+    ∙ ap (λ (bs : List ℕ). as_code (number bs)) (to_end 2 line)
+    ∙ sym (ap as_code (one_behind line (sym c.has_fields.ensures ∙ c.if-not-has_fields.false) number (number_tab NONE)))

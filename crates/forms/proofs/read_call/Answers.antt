@@ -1,30 +1,32 @@
--- `forms::read_call` meets its contract: the table tells the kind, and each kind has its reading.
-use Rattle.std.proofs.Common.{arith}
-use Rattle.forms.specs.Lines.{call_none, call_kind, decay_alone, decay_not_alone, call_one}
+-- `forms::read_call` meets its contract: the kind of the first byte says how the fields behind it are read.
+use Rattle.std.proofs.Common.{◌∙◌, eq-eqb, ne_eqb}
+use mathlib.Core.Logic.{by_cases}
+use native.Mathlib.Decide.{ℕ_discrete}
+use Rattle.std.proofs.Common.{length}
+use Rattle.forms.specs.Told.{asked_told}
+use Rattle.forms.specs.Lines.{call_none, call_kind, call_one, decay_alone, decay_not_alone}
 use Rattle.forms.proofs.read_call.Goals as goal
 
 pub returns-then-line-eq0 : goal.returns-then-line-eq0
 returns-then-line-eq0 c = record { is = rw (call_none c.args.line.now c.if-line-eq0.true) }
 
-pub returns-then-line-eq1 : goal.returns-then-line-eq1
-returns-then-line-eq1 c =
+pub returns-in-Decays : goal.returns-in-Decays
+returns-in-Decays c =
     let line = c.args.line.now in
-    record { is = rw (call_kind line c.if-line-eq0.false c.kind-k.ensures, c.in-2.is, decay_alone line c.if-line-eq1.true) }
+    by_cases (ℕ_discrete (length line) 1)
+    (λ e. record { is = rw (call_kind line c.if-line-eq0.false c.of-k.ensures, c.in-Decays.is, decay_alone line e, c.then_some.ensures, eq-eqb (length line) 1 e) })
+    (λ n. record { is = rw (call_kind line c.if-line-eq0.false c.of-k.ensures, c.in-Decays.is, decay_not_alone line c.if-line-eq0.false n, c.then_some.ensures, ne_eqb (length line) 1 n) })
 
-pub returns-else-line-eq1 : goal.returns-else-line-eq1
-returns-else-line-eq1 c =
-    let line = c.args.line.now in
-    record { is = rw (call_kind line c.if-line-eq0.false c.kind-k.ensures, c.in-2.is, decay_not_alone line c.if-line-eq0.false c.if-line-eq1.false) }
+pub returns-in-SetsDecay : goal.returns-in-SetsDecay
+returns-in-SetsDecay c = record { is = asked_told _ _ c.map.result c.map.ensures.cases ∙ rw (call_kind c.args.line.now c.if-line-eq0.false c.of-k.ensures, c.in-SetsDecay.is) c.read_decay.ensures }
 
-pub returns-in-3 : goal.returns-in-3
-returns-in-3 c = record { is = rw (call_kind c.args.line.now c.if-line-eq0.false c.kind-k.ensures, c.in-3.is) c.read_decay.ensures }
+pub returns-in-Enqueues : goal.returns-in-Enqueues
+returns-in-Enqueues c = record { is = asked_told _ _ c.map-in-Enqueues.result c.map-in-Enqueues.ensures.cases ∙ rw (call_kind c.args.line.now c.if-line-eq0.false c.of-k.ensures, c.in-Enqueues.is) c.read_enqueue.ensures }
 
-pub returns-in-7 : goal.returns-in-7
-returns-in-7 c = record { is = rw (call_kind c.args.line.now c.if-line-eq0.false c.kind-k.ensures, c.in-7.is) c.read_enqueue.ensures }
-
-pub returns-in-11 : goal.returns-in-11
-returns-in-11 c = record { is = rw (call_kind c.args.line.now c.if-line-eq0.false c.kind-k.ensures, c.in-11.is) }
+pub returns-in-MovesGroup : goal.returns-in-MovesGroup
+returns-in-MovesGroup c = record { is = rw (call_kind c.args.line.now c.if-line-eq0.false c.of-k.ensures, c.in-MovesGroup.is) }
 
 pub returns-in_default : goal.returns-in_default
 returns-in_default c =
-    record { is = rw (call_one c.args.line.now c.if-line-eq0.false c.kind-k.ensures (λ e. omega arith) (λ e. omega arith) (λ e. omega arith) (λ e. omega arith)) c.read_one.ensures }
+    let is = call_one c.args.line.now c.if-line-eq0.false c.of-k.ensures c.in_default.not-Decays c.in_default.not-SetsDecay c.in_default.not-Enqueues c.in_default.not-MovesGroup in
+    record { is = asked_told _ _ c.map-in_default.result c.map-in_default.ensures.cases ∙ rw is c.read_one.ensures }

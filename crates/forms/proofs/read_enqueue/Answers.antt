@@ -4,7 +4,7 @@ use Rattle.forms.specs.Text.{number}
 use Rattle.forms.specs.Forms.{enqueue_in, reason_in}
 use Rattle.laws.specs.Parts.{to_end}
 use Rattle.forms.specs.Lines.{second_range, two_none, two_behind, enqueue_tab}
-use Rattle.forms.specs.Told.{whole_is, whole_bad}
+use Rattle.laws.specs.Options.{code_none, code_some}
 use Rattle.forms.proofs.read_enqueue.Goals as goal
 use Rattle.forms.proofs.read_enqueue.Goals.{Else-end-line}
 
@@ -24,14 +24,11 @@ slice_bounds-number-start c = (range c).0
 pub slice_bounds-number-end : goal.slice_bounds-number-end
 slice_bounds-number-end c = let h = (range c).1 in omega arith
 
-pub returns-in_default : goal.returns-in_default
-returns-in_default c =
+pub returns-in_err-code : goal.returns-in_err-code
+returns-in_err-code c =
     let line = c.args.line.now in
     let end = c.second_tab-end.result in
-    rw (two_behind line c.second_tab-end.ensures enqueue_in enqueue_tab c.if-end-line.false, whole_bad (number (take (end - 2) (drop 2 line))) (sym c.number.ensures ∙ c.in_default.is))
-
-pub overflow_add-end : goal.overflow_add-end
-overflow_add-end c = omega (arith, range (goal.at.overflow_add-end c).Else-end-line, c.well_formed)
+    rw (two_behind line c.second_tab-end.ensures enqueue_in enqueue_tab c.if-end-line.false, code_none (number (take (end - 2) (drop 2 line))) (sym c.in_err-code.ensures), c.from_residual.ensures)
 
 pub slice_bounds-read_reason-count : goal.slice_bounds-read_reason-count
 slice_bounds-read_reason-count c = omega (arith, range (goal.at.slice_bounds-read_reason-count c).Else-end-line)
@@ -41,16 +38,16 @@ slice_bounds-read_reason-start c =
     let h : c.second_tab-end.result + 1 ≤ length c.args.line.now = omega (arith, range (goal.at.slice_bounds-read_reason-start c).Else-end-line) in
     h
 
-pub returns-in_default-read_reason : goal.returns-in_default-read_reason
-returns-in_default-read_reason c =
+pub returns-in_err-reason : goal.returns-in_err-reason
+returns-in_err-reason c =
     let line = c.args.line.now in
     let end = c.second_tab-end.result in
-    let bad = whole_bad (reason_in (drop (end + 1) line)) (sym (c.read_reason.ensures ∙ rw (to_end (end + 1) line)) ∙ c.in_default-read_reason.is) in
-    rw (two_behind line c.second_tab-end.ensures enqueue_in enqueue_tab c.if-end-line.false, whole_is (number (take (end - 2) (drop 2 line))) (sym c.number.ensures ∙ c.in-Is.is), bad)
+    let bad = code_none (reason_in (drop (end + 1) line)) (sym (c.in_err-reason.ensures ∙ rw (to_end (end + 1) line))) in
+    rw (two_behind line c.second_tab-end.ensures enqueue_in enqueue_tab c.if-end-line.false, code_some (number (take (end - 2) (drop 2 line))) (sym c.in_ok-code.ensures), bad, c.from_residual-in_err-reason.ensures)
 
 pub returns : goal.returns
 returns c =
     let line = c.args.line.now in
     let end = c.second_tab-end.result in
-    let is = whole_is (reason_in (drop (end + 1) line)) (sym (c.read_reason.ensures ∙ rw (to_end (end + 1) line)) ∙ c.in-Is-read_reason.is) in
-    rw (two_behind line c.second_tab-end.ensures enqueue_in enqueue_tab c.if-end-line.false, whole_is (number (take (end - 2) (drop 2 line))) (sym c.number.ensures ∙ c.in-Is.is), is)
+    let is = code_some (reason_in (drop (end + 1) line)) (sym (c.in_ok-reason.ensures ∙ rw (to_end (end + 1) line))) in
+    rw (two_behind line c.second_tab-end.ensures enqueue_in enqueue_tab c.if-end-line.false, code_some (number (take (end - 2) (drop 2 line))) (sym c.in_ok-code.ensures), is)

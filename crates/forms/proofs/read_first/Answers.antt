@@ -7,8 +7,8 @@ use Rattle.forms.proofs.read_first.Goals as goal
 pub returns-then-line-eq0 : goal.returns-then-line-eq0
 returns-then-line-eq0 c = sym (ap first_of (first_none c.args.line.now c.if-line-eq0.true))
 
-pub returns-then-kind-ne-IS_FIRST : goal.returns-then-kind-ne-IS_FIRST
-returns-then-kind-ne-IS_FIRST c = sym (ap first_of (first_other c.args.line.now c.if-line-eq0.false c.kind.ensures c.if-kind-ne-IS_FIRST.true))
+pub returns-in_default : goal.returns-in_default
+returns-in_default c = sym (ap first_of (first_other c.args.line.now c.if-line-eq0.false c.of.ensures c.in_default.not-First))
 
-pub returns : goal.returns
-returns c = c.read_opening.ensures ∙ sym (ap first_of (first_behind c.args.line.now c.if-line-eq0.false c.kind.ensures c.if-kind-ne-IS_FIRST.false))
+pub returns-in-First : goal.returns-in-First
+returns-in-First c = c.read_opening.ensures ∙ sym (ap first_of (first_behind c.args.line.now c.if-line-eq0.false c.of.ensures c.in-First.is))

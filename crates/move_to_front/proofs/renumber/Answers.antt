@@ -1,57 +1,47 @@
--- The loop's invariant: stamping on from curr with score gives the goal.
-use Prim.Native.Nat.{◌<◌}
-use mathlib.Core.Path.{refl, sym, ◌∙◌}
+-- The loop's invariant: stamping on from curr gives the goal.
+use Prim.Native.Nat.{ℕ, ◌<◌, ◌+◌, ◌-◌}
+use mathlib.Core.Path.{◌≡◌, refl, sym, ap, ◌∙◌}
+use mathlib.Core.List.{List}
 use native.Mathlib.Omega.{arith}
 use lib.ListN.{length, length-set}
+use Rattle.vmtf.specs.Vmtf.{Vmtf, vmtf_in, with_stamps}
 use Rattle.vmtf.specs.Laws.{renumber_none, renumber_last, renumber_step}
 use Rattle.move_to_front.proofs.renumber.Goals as goal
-use Rattle.move_to_front.proofs.renumber.Goals.{In-loop-curr}
 
-pub loop-curr-init : goal.loop-curr-init
-loop-curr-init c = record { links = c.requires; long = refl; few = omega (arith, c.requires.next_long); rest = refl }
+pub loop-score-init : goal.loop-score-init
+loop-score-init c =
+    let n = length c.args.list.now.next.now in
+    let e : n + 1 - 1 ≡ n = omega arith in
+    record { links = c.requires; rest = λ h. rw e; done = λ e. absurd (omega arith); slices = (refl, refl, refl) }
 
--- in a turn curr is a variable
-here : (c : In-loop-curr) → c.loop-curr.curr < length c.loop-curr.ts
-here c = let v = c.loop-curr.invariant in omega (arith, v.links.curr_in c.loop-curr-test.true, v.long)
+pub returns-then-curr-clause-renumbered : goal.returns-then-curr-clause-renumbered
+returns-then-curr-clause-renumbered c = let v = c.loop-score.invariant in ap (λ (ts : List ℕ). with_stamps ts c.loop-score.list.at.timestamp (vmtf_in c.loop-score.list)) (sym (renumber_none _ _ _ _ c.if-curr.true)) ∙ v.rest (omega arith)
 
-pub overflow_cast-ts : goal.overflow_cast-ts
-overflow_cast-ts c = omega (arith, here c)
+pub returns-then-curr-clause-same_slices : goal.returns-then-curr-clause-same_slices
+returns-then-curr-clause-same_slices c = c.loop-score.invariant.slices
 
-pub offset_bounds-ts-curr : goal.offset_bounds-ts-curr
-offset_bounds-ts-curr c = omega (arith, here c)
+pub bounds-list-curr : goal.bounds-list-curr
+bounds-list-curr c = c.loop-score.invariant.links.curr_in c.if-curr.false
 
-pub bounds-ts-curr : goal.bounds-ts-curr
-bounds-ts-curr c = here c
+pub bounds-list-curr-in-loop-score : goal.bounds-list-curr-in-loop-score
+bounds-list-curr-in-loop-score c = let l = c.loop-score.invariant.links in omega (arith, l.curr_in c.if-curr.false, l.next_long)
 
-pub returns-then-score-eq0 : goal.returns-then-score-eq0
-returns-then-score-eq0 c = sym (renumber_last _ _ _ _ c.loop-curr-test.true c.if-score-eq0.true) ∙ c.loop-curr.invariant.rest
-
-pub overflow_cast-curr : goal.overflow_cast-curr
-overflow_cast-curr c = omega (arith, here (goal.at.overflow_cast-curr c).In-loop-curr)
-
-pub offset_bounds-next-curr : goal.offset_bounds-next-curr
-offset_bounds-next-curr c = omega (arith, here (goal.at.offset_bounds-next-curr c).In-loop-curr)
-
-pub bounds-next-curr : goal.bounds-next-curr
-bounds-next-curr c = omega (arith, here (goal.at.bounds-next-curr c).In-loop-curr)
-
-pub loop-curr-smaller : goal.loop-curr-smaller
-loop-curr-smaller c = omega (arith, c.if-score-eq0.false)
-
-pub loop-curr-preserved : goal.loop-curr-preserved
-loop-curr-preserved c =
-    let v = c.loop-curr.invariant in
-    let some = c.loop-curr-test.true in
+pub loop-score-preserved : goal.loop-score-preserved
+loop-score-preserved c =
+    let v = c.loop-score.invariant in
+    let l = c.loop-score.list in
+    let some = c.if-curr.false in
+    let h : 0 < c.loop-score.score = omega arith in
+    let step : List ℕ → Vmtf = λ ts. with_stamps ts l.at.timestamp (vmtf_in l) in
     record {
-      links = record {
-        next_long = v.links.next_long;
-        next_in = v.links.next_in;
-        curr_in = v.links.next_in _ (v.links.curr_in some);
-      };
-      long = simp length-set v.long;
-      few = omega (arith, v.few);
-      rest = sym (renumber_step _ _ _ _ some (omega (arith, c.if-score-eq0.false))) ∙ v.rest;
+      links = simp length-set (record { next_long = v.links.next_long; next_in = v.links.next_in; curr_in = v.links.next_in _ (v.links.curr_in some) });
+      rest = λ q. ap step (sym (renumber_step _ _ _ _ some q)) ∙ v.rest h;
+      done = λ e. ap step (sym (renumber_last _ _ _ _ some e)) ∙ v.rest h;
+      slices = v.slices;
     }
 
-pub returns : goal.returns
-returns c = sym (renumber_none _ _ _ _ c.loop-curr-test.false) ∙ c.loop-curr.invariant.rest
+pub returns-clause-renumbered : goal.returns-clause-renumbered
+returns-clause-renumbered c = c.loop-score.invariant.done (omega arith)
+
+pub returns-clause-same_slices : goal.returns-clause-same_slices
+returns-clause-same_slices c = c.loop-score.invariant.slices

@@ -1,18 +1,17 @@
-use Prim.Native.Nat.{ℕ, ◌≤◌}
+use Prim.Native.Nat.{ℕ, ◌<◌, ◌-◌}
 use mathlib.Core.Path.{◌≡◌}
-use mathlib.Core.List.{List}
 use lib.ListN.{length}
-use Rattle.vmtf.specs.Vmtf.{renumber, Links}
+use Rattle.vmtf.specs.declared.Vmtf as lent
+use Rattle.vmtf.specs.Vmtf.{vmtf_in, SameSlices, with_stamps, renumber, Links}
 use Rattle.move_to_front.proofs.renumber.Given as goal
 
-pub record Renumbering (next : List ℕ) (n : ℕ) (goal : List ℕ) (score curr : ℕ) (ts : List ℕ) : Type 0 where
-  pub links : Links n next curr
-  pub long : length ts ≡ n
-  pub few : score ≤ n
-  pub rest : renumber next score curr ts ≡ goal
+-- stamping on from curr with one less than k gives the goal
+pub record Renumbering (before list : lent.Vmtf) (curr k : ℕ) : Type 0 where
+  pub links : Links (length list.ts.now) list.next.now curr
+  pub rest : 0 < k → with_stamps (renumber list.next.now (k - 1) curr list.ts.now) list.at.timestamp (vmtf_in list)
+      ≡ with_stamps (renumber before.next.now (length before.next.now) before.at.start before.ts.now) before.at.timestamp (vmtf_in before)
+  pub done : k ≡ 0 → vmtf_in list ≡ with_stamps (renumber before.next.now (length before.next.now) before.at.start before.ts.now) before.at.timestamp (vmtf_in before)
+  pub slices : SameSlices before list
 
-abbrev pub invariant-loop-curr : goal.invariant-loop-curr
-invariant-loop-curr l = Renumbering l.next (length l.initial.ts) (renumber l.next (length l.next) l.start l.initial.ts) l.score l.curr l.ts
-
-abbrev pub decreases-loop-curr : goal.decreases-loop-curr
-decreases-loop-curr l = l.score
+abbrev pub invariant-loop-score : goal.invariant-loop-score
+invariant-loop-score l = Renumbering l.initial.list l.list l.curr l.score

@@ -7,17 +7,14 @@ ghost use Rattle.vmtf.specs.Vmtf.{Literals};
 
 use lit::index;
 use util::sort_reverse;
-use vmtf::fill;
 
 // Writes the variables in the order of their numbers.
 fn number(s: &mut [u32])
     requires { length s.old ≤ none }
     ensures { s.new ≡ up_to (length s.old) }
 {
-    let mut i = 0;
-    while i < s.len() {
-        s[i] = i as u32;
-        i += 1;
+    for (i, v) in s.iter_mut().enumerate() {
+        *v = i as u32;
     }
 }
 
@@ -27,11 +24,8 @@ fn count_lits(codes: &[u32], counts: &mut [u32])
     requires counts_value { counts.old ≡ replicate (length counts.old) 0 }
     ensures { counts.new ≡ spec.count_lits counts.old codes.now }
 {
-    let mut i = 0;
-    while i < codes.len() {
-        let v = index(codes[i]) as usize;
-        counts[v] += 1;
-        i += 1;
+    for &code in codes {
+        counts[index(code) as usize] += 1;
     }
 }
 
@@ -41,7 +35,7 @@ pub(crate) fn lit_order(codes: &[u32], counts: &mut [u32], indexes: &mut [u32])
     requires counts_len_bound { (length counts.old ≤ none) × (length indexes.old ≡ length counts.old) }
     ensures { indexes.new ≡ spec.lit_order (length counts.old) codes.now }
 {
-    fill(counts, 0);
+    counts.fill(0);
     count_lits(codes, counts);
     number(indexes);
     sort_reverse(counts, indexes);

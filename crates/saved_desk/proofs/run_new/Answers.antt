@@ -3,6 +3,7 @@ use mathlib.Core.Path.{refl, sym, ◌∙◌}
 use native.Mathlib.Omega.{arith}
 use lib.ListN.{length}
 use Rattle.forms.specs.Text.{newline, lines, written}
+use Rattle.lit.specs.declared.Refusal.TheVariants.{LongSheet, ShortBuffer}
 use Rattle.forms.specs.TextLaws.{occurs_length}
 use Rattle.sheet.specs.Sheet.{answered}
 use Rattle.sheet.proofs.Opening.{start_room}
@@ -14,7 +15,7 @@ use Rattle.saved_desk.proofs.run_new.Goals as goal
 pub returns-then-sheet : goal.returns-then-sheet
 unfolding ran_new
 returns-then-sheet c =
-    comes_refused c.args.answers.now c.args.text.now (too_long c.args.sheet.now (length c.args.answers.now) (with_text_of (length c.args.text.now) (answered (lines c.args.sheet.now)) (held_by (lines c.args.sheet.now))) c.if-sheet.true)
+    comes_refused LongSheet c.args.answers.now c.args.text.now (too_long c.args.sheet.now (length c.args.answers.now) (with_text_of (length c.args.text.now) (answered (lines c.args.sheet.now)) (held_by (lines c.args.sheet.now))) c.if-sheet.true)
 
 pub overflow_mul-count : goal.overflow_mul-count
 overflow_mul-count c =
@@ -23,7 +24,7 @@ overflow_mul-count c =
 pub returns-then-answers-count : goal.returns-then-answers-count
 unfolding ran_new
 returns-then-answers-count c =
-    comes_refused c.args.answers.now c.args.text.now (no_room c.args.sheet.now (length c.args.answers.now) (with_text_of (length c.args.text.now) (answered (lines c.args.sheet.now)) (held_by (lines c.args.sheet.now))) c.if-sheet.false (rw c.occurs-count.ensures at c.if-answers-count.true))
+    comes_refused ShortBuffer c.args.answers.now c.args.text.now (no_room c.args.sheet.now (length c.args.answers.now) (with_text_of (length c.args.text.now) (answered (lines c.args.sheet.now)) (held_by (lines c.args.sheet.now))) c.if-sheet.false (rw c.occurs-count.ensures at c.if-answers-count.true))
 
 pub returns-then-count-eq0 : goal.returns-then-count-eq0
 unfolding ran_new written

@@ -3,6 +3,7 @@ use mathlib.Core.List.{map}
 use native.Mathlib.Omega.{arith}
 use lib.ListN.{length}
 use Rattle.forms.specs.Text.{newline, lines}
+use Rattle.lit.specs.declared.Refusal.TheVariants.{LongSheet, ShortBuffer}
 use Rattle.forms.specs.TextLaws.{occurs_length}
 use Rattle.forms.specs.Forms.{call_in}
 use Rattle.sheet.proofs.Opening.{start_room}
@@ -13,7 +14,7 @@ use Rattle.saved_desk.proofs.run_on.Goals as goal
 pub returns-then-sheet : goal.returns-then-sheet
 unfolding ran_on
 returns-then-sheet c =
-    comes_refused c.args.answers.now c.args.text.now (too_long c.args.sheet.now (length c.args.answers.now) (carried_on (length c.args.text.now) (map call_in (lines c.args.sheet.now)) (held_in c.args.old.now)) c.if-sheet.true)
+    comes_refused LongSheet c.args.answers.now c.args.text.now (too_long c.args.sheet.now (length c.args.answers.now) (carried_on (length c.args.text.now) (map call_in (lines c.args.sheet.now)) (held_in c.args.old.now)) c.if-sheet.true)
 
 pub overflow_mul-count : goal.overflow_mul-count
 overflow_mul-count c =
@@ -22,7 +23,7 @@ overflow_mul-count c =
 pub returns-then-answers-count : goal.returns-then-answers-count
 unfolding ran_on
 returns-then-answers-count c =
-    comes_refused c.args.answers.now c.args.text.now (no_room c.args.sheet.now (length c.args.answers.now) (carried_on (length c.args.text.now) (map call_in (lines c.args.sheet.now)) (held_in c.args.old.now)) c.if-sheet.false (rw c.occurs-count.ensures at c.if-answers-count.true))
+    comes_refused ShortBuffer c.args.answers.now c.args.text.now (no_room c.args.sheet.now (length c.args.answers.now) (carried_on (length c.args.text.now) (map call_in (lines c.args.sheet.now)) (held_in c.args.old.now)) c.if-sheet.false (rw c.occurs-count.ensures at c.if-answers-count.true))
 
 pub overflow_cast-count : goal.overflow_cast-count
 overflow_cast-count c =

@@ -1,31 +1,16 @@
--- `session::vars_below` meets its contract: what is left of the group still decides.
-use Prim.Native.Nat.{◌≤◌, ◌<◌, ◌+◌}
-use mathlib.Core.Path.{◌≡◌, refl, ◌∙◌}
-use mathlib.Core.List.{◌∷◌}
-use native.Mathlib.Omega.{arith}
-use native.Mathlib.Numerals.{add-one}
-use borrow.Author.Tests.{lt-ltb, le-ltb}
-use lib.ListN.{length, get_or, drop, drop_of_length-le}
-use lib.Seq.{drop-cons}
+-- `session::vars_below` meets its contract: `below` is a test of each variable.
+use Rattle.std.proofs.Common.{◌≡◌, ℕ, List, [], ◌∷◌, refl, ap, rules, tests, ltb}
+use Rattle.std.proofs.Math.Bool.{Bool, ◌&&◌}
+use Rattle.std.proofs.lemmas.Iterator.{YieldsList-from_slice}
+use Rattle.std.proofs.lemmas.Iterator.Search.{all_from_yields_List}
+use Rattle.std.specs.List.{list_all}
 use Rattle.book.specs.Chooser.{below}
 use Rattle.session.proofs.vars_below.Goals as goal
-use Rattle.session.proofs.vars_below.Goals.{In-loop-i}
 
--- the variable at i stands first in what is left
-next : (c : In-loop-i) → let l = c.args.vars.now in let i = c.loop-i.i in drop i l ≡ get_or l i 0 ∷ drop (i + 1) l
-next c = let h : c.loop-i.i < length c.args.vars.now = omega arith in rw (add-one, drop-cons c.args.vars.now c.loop-i.i 0)
-
-pub loop-i-init : goal.loop-i-init
-loop-i-init c = (omega arith, refl)
-
-pub returns-then-vars-i : goal.returns-then-vars-i
+below_each : (n : ℕ) (vs : List ℕ) → below n vs ≡ list_all (λ v. ltb v n) vs
 unfolding below
-returns-then-vars-i c = rw (c.loop-i.invariant.1, next (goal.at.returns-then-vars-i c).In-loop-i, le-ltb _ _ c.if-vars-i.true)
-
-pub loop-i-preserved : goal.loop-i-preserved
-unfolding below
-loop-i-preserved c = (omega arith, c.loop-i.invariant.1 ∙ rw (next (goal.at.loop-i-preserved c).In-loop-i, lt-ltb _ _ c.if-vars-i.false))
+below_each n [] = refl
+below_each n (v ∷ vs) = ap (λ (b : Bool). ltb v n && b) (below_each n vs)
 
 pub returns : goal.returns
-unfolding below
-returns c = let e : length c.args.vars.now ≤ c.loop-i.i = omega arith in rw (c.loop-i.invariant.1, drop_of_length-le c.args.vars.now e)
+returns c = rw below_each (all_from_yields_List (λ v. ltb v c.args.n) _ _ _ c.all.ensures.ran (YieldsList-from_slice c.args.vars.now cc) (λ x b q k. search (rules, tests)))

@@ -1,12 +1,7 @@
-use Prim.Native.Nat.{◌≤◌, ◌-◌}
-use mathlib.Core.Path.{◌≡◌}
-use lib.ListN.{length}
+use Rattle.std.proofs.Common.{◌≡◌}
 use Rattle.laws.specs.Every.{every}
 use Rattle.trail_check.specs.Check.{covered_at}
 use Rattle.trail_check.proofs.covered_ok.Given as goal
 
 abbrev pub invariant-loop-v : goal.invariant-loop-v
-invariant-loop-v l = (l.v ≤ length l.values) × (l.ok ≡ every (covered_at l.values l.marks) l.v)
-
-abbrev pub decreases-loop-v : goal.decreases-loop-v
-decreases-loop-v l = length l.values - l.v
+invariant-loop-v l = l.ok ≡ every (covered_at l.values l.marks) l.v

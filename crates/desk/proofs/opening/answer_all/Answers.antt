@@ -17,23 +17,12 @@ slice_bounds-read_first-end c =
 pub answer-requires : goal.answer-requires
 answer-requires c = first_fits c.requires.0 c.requires.1 3 (omega arith)
 
-pub open-requires : goal.open-requires
-open-requires c = (c.requires.0, c.requires.1, c.find-end.ensures)
-
-pub open-requires-in-List : goal.open-requires-in-List
-open-requires-in-List c = (c.requires.0, c.requires.1, c.find-end.ensures)
-
-pub returns-in-Bad : goal.returns-in-Bad
-returns-in-Bad c =
+pub returns-in-None : goal.returns-in-None
+returns-in-None c =
     let w = c.answer.ensures in
-    let both = first_done c.requires.0 c.requires.1 c.find-end.ensures c.read_first.ensures (rw c.in-Bad.is w) untouched in record { wrote = both.0; same_from = both.1 }
+    let both = first_done c.requires.0 c.requires.1 c.find-end.ensures c.read_first.ensures (rw c.in-None.is w) untouched in record { wrote = both.0; same_from = both.1 }
 
-pub returns-in-Heap : goal.returns-in-Heap
-returns-in-Heap c =
+pub returns-in-Some : goal.returns-in-Some
+returns-in-Some c =
     let w = c.«open».ensures in
-    let both = first_done c.requires.0 c.requires.1 c.find-end.ensures c.read_first.ensures (rw c.in-Heap.is w.wrote) (rw c.in-Heap.is w.same_from) in record { wrote = both.0; same_from = both.1 }
-
-pub returns-in-List : goal.returns-in-List
-returns-in-List c =
-    let w = c.open-in-List.ensures in
-    let both = first_done c.requires.0 c.requires.1 c.find-end.ensures c.read_first.ensures (rw c.in-List.is w.wrote) (rw c.in-List.is w.same_from) in record { wrote = both.0; same_from = both.1 }
+    let both = first_done c.requires.0 c.requires.1 c.find-end.ensures c.read_first.ensures (rw c.in-Some.is w.wrote) (rw c.in-Some.is w.same_from) in record { wrote = both.0; same_from = both.1 }

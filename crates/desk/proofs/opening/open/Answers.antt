@@ -12,11 +12,11 @@ use Rattle.desk.proofs.opening.open.Goals as goal
 pub answer-requires : goal.answer-requires
 answer-requires c = first_fits c.requires.0 c.requires.1 4 (omega arith)
 
-pub returns-then-n-gt-MAX_VARS : goal.returns-then-n-gt-MAX_VARS
-returns-then-n-gt-MAX_VARS c =
-    let many : max_vars < c.args.n = search rules in
+pub returns-then-o-gt-MAX_VARS : goal.returns-then-o-gt-MAX_VARS
+returns-then-o-gt-MAX_VARS c =
+    let many : max_vars < c.args.o.vars = search rules in
     let w = c.answer.ensures in
-    record { wrote = first_refused c.args.heap c.args.n many _ w; same_from = untouched }
+    record { wrote = first_refused c.args.o.mode c.args.o.vars many _ w; same_from = untouched }
 
 pub answer-at-requires : goal.answer-at-requires
 answer-at-requires c = first_fits c.requires.0 c.requires.1 0 (omega arith)
@@ -27,11 +27,11 @@ behind-p-requires c =
 
 pub with_positions-requires : goal.with_positions-requires
 with_positions-requires c =
-    let few : c.args.n ≤ max_vars = search rules in
+    let few : c.args.o.vars ≤ max_vars = search rules in
     rw c.behind-p.ensures (first_room c.requires.0 c.requires.1 c.requires.2 c.answer-at.ensures, few)
 
 pub returns : goal.returns
 returns c =
-    let few : c.args.n ≤ max_vars = search rules in
+    let few : c.args.o.vars ≤ max_vars = search rules in
     let e = c.with_positions.ensures in
-    record { wrote = first_opened c.args.heap c.args.n few c.args.sheet.now c.args.count c.args.end c.answer-at.ensures (rw c.behind-p.ensures at e.ended); same_from = e.same_from }
+    record { wrote = first_opened c.args.o.mode c.args.o.vars few c.args.sheet.now c.args.count c.args.end c.answer-at.ensures (rw c.behind-p.ensures at e.ended); same_from = e.same_from }

@@ -12,9 +12,6 @@ four n h u =
     let same : c / 10 ≡ n / 10000 = omega arith in
     rw (← same) (omega (arith, decimals_length 18 n (omega arith) (omega arith), decimals_length 18 a (omega arith) (omega arith), decimals_length 18 b (omega arith) (omega arith), decimals_length 18 c (omega arith) (omega arith)))
 
-pub loop-left-init : goal.loop-left-init
-loop-left-init c = (omega arith, omega arith)
-
 pub overflow_add-k : goal.overflow_add-k
 overflow_add-k c = omega (arith, c.loop-left.invariant.1, digits_room 20 c.args.v)
 

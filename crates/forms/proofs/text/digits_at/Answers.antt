@@ -1,91 +1,63 @@
--- `forms::text::digits_at` meets its contract: what is left of the digits still decides, and a number that has no room for a digit more is too great with it.
-use Rattle.std.proofs.Common.{◌≡◌, ◌+◌, ◌-◌, ◌*◌, ◌/◌, ◌<◌, length, get_or, drop, sym, refl, ◌∙◌, arith}
+-- `forms::text::digits_at` meets its contract: what is left of the digits still decides, and a number of more than 64 bits is too great.
+use Rattle.std.proofs.Common.{◌≡◌, ◌+◌, ◌*◌, ◌/◌, ◌<◌, ◌∙◌, drop, arith}
 use Rattle.forms.specs.Reading.{digit_run}
-use Rattle.forms.proofs.Digits.{Left, begun, more, nothing, leading, too_great, the_number, no_digit, a_digit, no_byte, below_ten, not_zero, is_zero}
+use Rattle.forms.proofs.Digits.{Left, start, more, nothing, leading, too_great, the_number, no_digit, no_byte}
 use Rattle.forms.proofs.text.digits_at.Goals as goal
-use Rattle.forms.proofs.text.digits_at.Goals.{After-digit-d, Else-at-bytes, Else-first-eq10, Left-loop-i, else-i-bytes-via-else-i-bytes, else-value-ge-MOST_TENTH-via-else-value-ge-MOST_TENTH, else-value-ge-MOST_TENTH-via-then-value-ge-MOST_TENTH+else-value-d, else-i-bytes-via-then-i-bytes+else-digit-lt10, then-loop-i-test+else-digit-lt10-2, else-loop-i-test}
+use Rattle.forms.proofs.text.digits_at.Goals.{In-Some, Left-loop-end, else-loop-end-test, then-loop-end-test+in_default, then-end-at-via-then-end-at, then-end-at-via-else-end-at+then-value-top, else-bytes-at-eq48-via-then-bytes-at-eq48+else-end-at-2, else-bytes-at-eq48-via-else-bytes-at-eq48}
 
-pub returns-then-at-bytes : goal.returns-then-at-bytes
-returns-then-at-bytes c = let a = c.args in nothing a.bytes.now a.at a.top (no_byte a.bytes.now a.at (omega (arith, c.if-at-bytes.true)))
-
--- the first byte is one of the text, and a digit behind the second test
-here : (c : Else-at-bytes) → c.args.at < length c.args.bytes.now
-here c = omega (arith, c.requires, c.if-at-bytes.false)
-
-pub returns-then-first-eq10 : goal.returns-then-first-eq10
-returns-then-first-eq10 c =
-    let a = c.args in
-    nothing a.bytes.now a.at a.top (no_digit a.bytes.now a.at (here (goal.at.returns-then-first-eq10 c).Else-at-bytes) (λ h. omega (arith, c.digit-first.ensures, c.if-first-eq10.true)))
-
--- so the number begins with it
-small-first : (c : Else-first-eq10) → c.digit-first.result < 10
-small-first c = let a = c.args in below_ten (get_or a.bytes.now a.at 0) c.digit-first.result c.digit-first.ensures c.if-first-eq10.false
-
-with_first : (c : Else-first-eq10) → let a = c.args in Left a.bytes.now a.at a.top c.digit-first.result (a.at + 1)
-with_first c =
-    let a = c.args in
-    begun a.bytes.now a.at a.top c.digit-first.result (omega (arith, c.requires, c.if-at-bytes.false)) c.digit-first.ensures (small-first c)
-
-pub returns-then-digit-lt10 : goal.returns-then-digit-lt10
-returns-then-digit-lt10 c =
-    let a = c.args in
-    let next = c.digit in
-    let first = c.digit-first in
-    let d : next.result < 10 = c.if-digit-lt10.true in
-    let in-text = here (goal.at.returns-then-digit-lt10 c).Else-at-bytes in
-    leading a.bytes.now a.at a.top (is_zero _ _ first.ensures c.if-first-eq0.true)
-    (omega (arith, a_digit a.bytes.now a.at in-text (omega (arith, first.ensures, c.if-first-eq0.true)), a_digit a.bytes.now (a.at + 1) c.if-i-bytes.true (omega (arith, d, next.ensures))))
-
-pub returns-then-first-eq0 : goal.returns-then-first-eq0
-returns-then-first-eq0 c =
-    let a = c.args in
-    let bytes = a.bytes.now in
-    let first = c.digit-first in
-    let zero : first.result ≡ 0 = c.if-first-eq0.true in
-    let start : Left bytes a.at a.top 0 (a.at + 1) = begun bytes a.at a.top 0 (here (goal.at.returns-then-first-eq0 c).Else-at-bytes) (sym zero ∙ first.ensures) (omega arith) in
-    let end : digit_run (drop (a.at + 1) bytes) ≡ 0 = elim c.else-i-bytes.branch [ else-i-bytes-via-then-i-bytes+else-digit-lt10 w ↦ no_digit bytes (a.at + 1) w.if-i-bytes.true (λ h. omega (arith, w.if-digit-lt10.false, w.digit.ensures)) | else-i-bytes-via-else-i-bytes w ↦ no_byte bytes (a.at + 1) w.if-i-bytes.false ] in
-    the_number bytes a.at a.top 0 (a.at + 1) start end (omega arith) (omega arith) (λ e. refl)
-
-pub loop-i-init : goal.loop-i-init
-loop-i-init c = (with_first (goal.at.loop-i-init c).Else-first-eq10, omega arith)
+pub loop-end-init : goal.loop-end-init
+loop-end-init c = start c.args.bytes.now c.args.at c.args.top c.requires
 
 -- where the loop goes on, the byte is a digit
-small-digit : (c : After-digit-d) → c.digit-d.result < 10
-small-digit c = omega (arith, (let t : c.digit-in-loop-i.result < 10 = c.if-digit-lt10-2.true in t), c.digit-in-loop-i.ensures, c.digit-d.ensures)
+read-on : (c : In-Some) → let l = c.loop-end in let a = c.args in
+    Left a.bytes.now a.at a.top (l.value * 10 + c.in-Some.d) (l.end + 1)
+read-on c = let l = c.loop-end in let a = c.args in more a.bytes.now a.at a.top l.value l.end c.in-Some.d l.invariant c.loop-end-test.true c.in-Some.ensures
 
-read-on : (c : After-digit-d) → let l = c.loop-i in let a = c.args in
-    Left a.bytes.now a.at a.top (l.value * 10 + c.digit-d.result) (l.i + 1)
-read-on c =
-    let l = c.loop-i in
-    let a = c.args in
-    more a.bytes.now a.at a.top l.value l.i c.digit-d.result l.invariant.0 (omega arith) c.digit-d.ensures (small-digit c)
-
-pub returns-then-value-d : goal.returns-then-value-d
-returns-then-value-d c =
-    too_great _ _ _ _ _ (read-on (goal.at.returns-then-value-d c).After-digit-d) (let t : (18446744073709551615 - c.digit-d.result) / 10 < c.loop-i.value = c.if-value-d.true in omega arith)
+pub returns-then-value-tenth : goal.returns-then-value-tenth
+returns-then-value-tenth c =
+    let large : c.args.top / 10 < c.loop-end.value = c.if-value-tenth.true in
+    too_great _ _ _ _ _ (read-on (goal.at.returns-then-value-tenth c).In-Some) (omega (arith, large))
 
 pub overflow_mul-value : goal.overflow_mul-value
-overflow_mul-value c = elim c.else-value-ge-MOST_TENTH.branch [ else-value-ge-MOST_TENTH-via-then-value-ge-MOST_TENTH+else-value-d w ↦ omega (arith, w.if-value-d.false) | else-value-ge-MOST_TENTH-via-else-value-ge-MOST_TENTH w ↦ omega (arith, w.if-value-ge-MOST_TENTH.false) ]
+overflow_mul-value c = omega (arith, c.if-value-tenth.false, c.ranges.top.fits)
 
-pub overflow_add-value : goal.overflow_add-value
-overflow_add-value c = elim c.else-value-ge-MOST_TENTH.branch [ else-value-ge-MOST_TENTH-via-then-value-ge-MOST_TENTH+else-value-d w ↦ omega (arith, w.if-value-d.false, small-digit (goal.at.overflow_add-value c).After-digit-d) | else-value-ge-MOST_TENTH-via-else-value-ge-MOST_TENTH w ↦ omega (arith, w.if-value-ge-MOST_TENTH.false, small-digit (goal.at.overflow_add-value c).After-digit-d) ]
+pub returns-in_err-value : goal.returns-in_err-value
+returns-in_err-value c =
+    let large : c.loop-end.value * 10 + c.in-Some.d < 18446744073709551616 → ⊥ = c.in_err-value.ensures in
+    c.from_residual.ensures ∙ too_great _ _ _ _ _ (read-on (goal.at.returns-in_err-value c).In-Some) (omega (arith, large, c.ranges.top.fits))
 
-pub loop-i-preserved : goal.loop-i-preserved
-loop-i-preserved c = (read-on (goal.at.loop-i-preserved c).After-digit-d, omega (arith, c.loop-i.invariant.1))
+pub loop-end-preserved : goal.loop-end-preserved
+loop-end-preserved c =
+    let sum = c.in_ok-value.ensures in
+    let same : c.loop-end.value * 10 + c.in-Some.d ≡ c.in_ok-value.value = omega (arith, sum.1) in
+    rw same at (read-on (goal.at.loop-end-preserved c).In-Some)
 
 -- and where it is left, they end
-ended : (c : Left-loop-i) → digit_run (drop c.loop-i.i c.args.bytes.now) ≡ 0
+ended : (c : Left-loop-end) → digit_run (drop c.loop-end.end c.args.bytes.now) ≡ 0
 ended c =
     let bytes = c.args.bytes.now in
-    let i = c.loop-i.i in
-    elim c.loop-i-test.branch [ then-loop-i-test+else-digit-lt10-2 w ↦ no_digit bytes i w.loop-i-test.true (λ h. omega (arith, w.if-digit-lt10-2.false, w.digit-in-loop-i.ensures)) | else-loop-i-test w ↦ no_byte bytes i w.loop-i-test.false ]
+    let i = c.loop-end.end in
+    elim c.loop-end-test.branch [ then-loop-end-test+in_default w ↦ no_digit bytes i w.loop-end-test.true w.in_default.ensures | else-loop-end-test w ↦ no_byte bytes i w.loop-end-test.false ]
 
-pub returns-then-value-top : goal.returns-then-value-top
-returns-then-value-top c = too_great _ _ _ _ _ c.loop-i.invariant.0 c.if-value-top.true
+pub returns-then-end-at : goal.returns-then-end-at
+returns-then-end-at c =
+    let a = c.args in
+    elim c.then-end-at.branch [
+      | then-end-at-via-then-end-at w ↦ (let none : digit_run (drop a.at a.bytes.now) ≡ 0 = rw w.if-end-at.true at (ended (goal.at.returns-then-end-at c).Left-loop-end) in nothing a.bytes.now a.at a.top none)
+      | then-end-at-via-else-end-at+then-value-top w ↦ too_great _ _ _ _ _ c.loop-end.invariant w.if-value-top.true
+    ]
+
+pub returns-then-end-at-2 : goal.returns-then-end-at-2
+returns-then-end-at-2 c =
+    let a = c.args in
+    leading a.bytes.now a.at a.top c.if-bytes-at-eq48.true (omega (arith, c.loop-end.invariant.ends, c.if-end-at-2.true))
 
 pub returns : goal.returns
 returns c =
-    let l = c.loop-i in
+    let l = c.loop-end in
     let a = c.args in
-    let first = c.digit-first in
-    the_number a.bytes.now a.at a.top l.value l.i l.invariant.0 (ended (goal.at.returns c).Left-loop-i) l.invariant.1 c.if-value-top.false (λ e. absurd (not_zero _ _ first.ensures c.if-first-eq0.false e))
+    the_number a.bytes.now a.at a.top l.value l.end l.invariant (ended (goal.at.returns c).Left-loop-end) (omega (arith, l.invariant.from, c.if-end-at.false)) c.if-value-top.false
+    (λ z. elim c.else-bytes-at-eq48.branch [
+      | else-bytes-at-eq48-via-then-bytes-at-eq48+else-end-at-2 w ↦ omega (arith, l.invariant.from, c.if-end-at.false, w.if-end-at-2.false)
+      | else-bytes-at-eq48-via-else-bytes-at-eq48 w ↦ absurd (w.if-bytes-at-eq48.false z)
+    ])

@@ -1,22 +1,13 @@
--- `forms::text::find` meets its contract: what is left holds the byte at the same place, counted from here.
+-- `forms::text::find` meets its contract: what is left of the bytes still decides.
 use Rattle.std.proofs.Common.{arith}
 use Rattle.forms.specs.Reading.{find_next, find_here, find_none}
 use Rattle.forms.proofs.text.find.Goals as goal
 
-pub loop-i-init : goal.loop-i-init
-loop-i-init c = (omega arith, omega arith)
-
 pub loop-i-preserved : goal.loop-i-preserved
-loop-i-preserved c =
-    let l = c.args.bytes.now in
-    let i = c.loop-i.i in
-    (omega arith, omega (arith, find_next c.args.b l i (omega arith) c.if-bytes-i.true))
+loop-i-preserved c = omega (arith, c.loop-i.invariant, find_next c.args.b c.args.bytes.now c.loop-i.i (omega arith) c.if-x-b.false)
 
-pub returns-else-bytes-i : goal.returns-else-bytes-i
-returns-else-bytes-i c =
-    let l = c.args.bytes.now in
-    let i = c.loop-i.i in
-    omega (arith, find_here c.args.b l i (omega arith) c.if-bytes-i.false)
+pub returns-then-x-b : goal.returns-then-x-b
+returns-then-x-b c = omega (arith, c.loop-i.invariant, find_here c.args.b c.args.bytes.now c.loop-i.i (omega arith) c.if-x-b.true)
 
-pub returns-after-loop-i : goal.returns-after-loop-i
-returns-after-loop-i c = omega (arith, find_none c.args.b c.args.bytes.now c.loop-i.i (omega arith))
+pub returns : goal.returns
+returns c = omega (arith, c.loop-i.invariant, find_none c.args.b c.args.bytes.now c.loop-i.i (omega arith))

@@ -1,9 +1,6 @@
-use Rattle.std.proofs.Common.{◌≡◌, ◌+◌, ◌-◌, ◌≤◌, length, drop}
+use Rattle.std.proofs.Common.{◌≡◌, ◌≤◌, ◌+◌, drop}
 use Rattle.forms.specs.Text.{occurs}
 use Rattle.forms.proofs.text.occurs_in_block.Given as goal
 
-abbrev pub invariant-loop-i : goal.invariant-loop-i
-invariant-loop-i l = (l.i ≤ length l.bytes) × ((l.count ≤ l.i) × (occurs l.b l.bytes ≡ l.count + occurs l.b (drop l.i l.bytes)))
-
-abbrev pub decreases-loop-i : goal.decreases-loop-i
-decreases-loop-i l = length l.bytes - l.i
+abbrev pub invariant-loop-x : goal.invariant-loop-x
+invariant-loop-x l = (l.count ≤ l.x-index) × (occurs l.b l.bytes ≡ l.count + occurs l.b (drop l.x-index l.bytes))

@@ -1,10 +1,15 @@
 -- `heap_desk::loaded::heap_loaded` meets its contract: the first refusal that fits, or the session that the text says stands in the fronts of the slices, and its calls and its text follow.
-use mathlib.Core.Path.{◌≡◌, refl, sym, ◌∙◌}
+use mathlib.Core.Path.{◌≡◌, refl, sym, ap}
 use mathlib.Core.List.{map}
 use lib.ListN.{length, take}
 use lib.Seq.{length-take-le}
+use Rattle.std.specs.Prelude.{Err, is_ok}
+use borrow.Author.Rules.{rules}
+use Rattle.lit.specs.declared.Refusal.TheVariants.{BadSaved}
 use Rattle.forms.specs.Text.{lines}
 use Rattle.forms.specs.Forms.{call_in}
+use Rattle.saved_state.specs.Judging.{clauses_fit}
+use Rattle.heap_saved.specs.Loading.{state_in}
 use Rattle.heap_saved.specs.Reader.{heap_reader}
 use Rattle.heap_saved.specs.Sound.{heap_sound}
 use Rattle.saved_sheet.specs.Sheets.{heap_held}
@@ -14,45 +19,51 @@ use Rattle.heap_desk.proofs.loaded.heap_loaded.Goals as goal
 
 pub returns-in_default : goal.returns-in_default
 returns-in_default c old at t =
-    came_refused (length c.args.text.now) (map call_in (lines c.args.sheet.now)) c.args.out.now c.args.text.now (said_none t c.in_default.is) refl
+    came_refused (length c.args.text.now) (map call_in (lines c.args.sheet.now)) c.args.out.now c.args.text.now BadSaved (said_none t c.in_default.is)
 
-pub refusal-k-requires : goal.refusal-k-requires
-refusal-k-requires c =
-    let y = said_some c.requires.by_index.2 c.in-Is.is in
+pub admit-requires : goal.admit-requires
+admit-requires c =
+    let y = said_some c.requires.by_index.2 c.in-Some.is in
     (c.requires.room.1, (λ good. loaded_few y.2 good))
 
-pub returns-then-k-ne0 : goal.returns-then-k-ne0
-returns-then-k-ne0 c old at t =
-    let y = said_some t c.in-Is.is in
-    rw y.1 (loaded_refused heap_reader heap_sound heap_held (λ s. refl) (λ n x. refl) c.requires.room.1 y.2 (length c.args.text.now) (map call_in (lines c.args.sheet.now)) c.args.out.now c.args.text.now c.refusal-k.ensures c.if-k-ne0.true)
+pub returns-in_err-state : goal.returns-in_err-state
+returns-in_err-state c old at t =
+    let r : c.from_residual.result ≡ Err c.in_err-state.field-0.0 = search rules in
+    let y = said_some t c.in-Some.is in
+    rw (y.1, r) (loaded_refused heap_reader heap_sound heap_held (λ s. refl) (λ n x. refl) c.requires.room.1 y.2 (length c.args.text.now) (map call_in (lines c.args.sheet.now)) c.in_err-state.field-0.0 c.args.out.now c.args.text.now (rw c.in_err-state.was at c.admit.ensures.refusal))
 
-pub slice_bounds-heap_done-end : goal.slice_bounds-heap_done-end
-slice_bounds-heap_done-end c =
-    let l = c.in-Is.l in
-    let e : 0 ≡ refusal_of c.args.n l.clauses l.literals l.good l.passed (length c.args.text.now) = sym c.if-k-ne0.false ∙ c.refusal-k.ensures in
-    let y = said_some c.requires.by_index.2 c.in-Is.is in
-    let f = loaded_fits (length c.args.text.now) y.2 e in
-    sym (length-take-le l.literals c.args.lits.now f.0)
+pub slice_bounds-list-end : goal.slice_bounds-list-end
+slice_bounds-list-end c =
+    let l = c.in-Some.l in
+    let e : 0 ≡ refusal_of c.args.n l.clauses l.literals (clauses_fit l.state) (is_ok l.state) (length c.args.text.now) = rw c.in_ok-state.was at c.admit.ensures.refusal in
+    let y = said_some c.requires.by_index.2 c.in-Some.is in
+    sym (length-take-le l.literals c.args.lits.now (loaded_fits (length c.args.text.now) y.2 e).0)
 
-pub slice_bounds-heap_done-end-2 : goal.slice_bounds-heap_done-end-2
-slice_bounds-heap_done-end-2 c =
-    let l = c.in-Is.l in
-    let e : 0 ≡ refusal_of c.args.n l.clauses l.literals l.good l.passed (length c.args.text.now) = sym c.if-k-ne0.false ∙ c.refusal-k.ensures in
-    let y = said_some c.requires.by_index.2 c.in-Is.is in
-    let f = loaded_fits (length c.args.text.now) y.2 e in
-    sym (length-take-le l.clauses c.args.ends.now f.1)
+pub slice_bounds-list-end-2 : goal.slice_bounds-list-end-2
+slice_bounds-list-end-2 c =
+    let l = c.in-Some.l in
+    let e : 0 ≡ refusal_of c.args.n l.clauses l.literals (clauses_fit l.state) (is_ok l.state) (length c.args.text.now) = rw c.in_ok-state.was at c.admit.ensures.refusal in
+    let y = said_some c.requires.by_index.2 c.in-Some.is in
+    sym (length-take-le l.clauses c.args.ends.now (loaded_fits (length c.args.text.now) y.2 e).1)
 
-pub heap_done-b-requires : goal.heap_done-b-requires
+pub heap_done-requires : goal.heap_done-requires
 unfolding heap_sound
-heap_done-b-requires c =
-    let l = c.in-Is.l in
-    let e : 0 ≡ refusal_of c.args.n l.clauses l.literals l.good l.passed (length c.args.text.now) = sym c.if-k-ne0.false ∙ c.refusal-k.ensures in
-    let y = said_some c.requires.by_index.2 c.in-Is.is in
-    record { room = (c.requires.room.0, loaded_room heap_reader heap_sound heap_held (λ s. refl) (λ n x. refl) c.requires.room.1 y.2 (length c.args.text.now) e); savable = loaded_good heap_reader heap_sound heap_held (λ s. refl) (λ n x. refl) c.requires.room.1 y.2 (length c.args.text.now) e }
+heap_done-requires c =
+    let l = c.in-Some.l in
+    let e : 0 ≡ refusal_of c.args.n l.clauses l.literals (clauses_fit l.state) (is_ok l.state) (length c.args.text.now) = rw c.in_ok-state.was at c.admit.ensures.refusal in
+    let y = said_some c.requires.by_index.2 c.in-Some.is in
+    let held : state_in l.state ≡ c.in_ok-state.state = ap state_in (c.admit.ensures.state c.in_ok-state.state c.in_ok-state.was) in
+    record {
+      room = (c.requires.room.0, loaded_room heap_reader heap_sound heap_held (λ s. refl) (λ n x. refl) c.requires.room.1 y.2 (length c.args.text.now) e);
+      savable = rw (sym held) (loaded_good heap_reader heap_sound heap_held (λ s. refl) (λ n x. refl) c.requires.room.1 y.2 (length c.args.text.now) e);
+    }
 
 pub returns : goal.returns
 returns c old at t =
-    let l = c.in-Is.l in
-    let e : 0 ≡ refusal_of c.args.n l.clauses l.literals l.good l.passed (length c.args.text.now) = sym c.if-k-ne0.false ∙ c.refusal-k.ensures in
-    let y = said_some t c.in-Is.is in
-    rw (y.1, loaded_said heap_reader heap_sound heap_held (λ s. refl) (λ n x. refl) c.requires.room.1 y.2 (length c.args.text.now) e) (heap_carried c.args.n (take l.literals c.args.lits.now) (take l.clauses c.args.ends.now) (loaded_room heap_reader heap_sound heap_held (λ s. refl) (λ n x. refl) c.requires.room.1 y.2 (length c.args.text.now) e) _ _ c.heap_done-b.ensures)
+    let l = c.in-Some.l in
+    let e : 0 ≡ refusal_of c.args.n l.clauses l.literals (clauses_fit l.state) (is_ok l.state) (length c.args.text.now) = rw c.in_ok-state.was at c.admit.ensures.refusal in
+    let y = said_some t c.in-Some.is in
+    let held : state_in l.state ≡ c.in_ok-state.state = ap state_in (c.admit.ensures.state c.in_ok-state.state c.in_ok-state.was) in
+    rw (y.1, loaded_said heap_reader heap_sound heap_held (λ s. refl) (λ n x. refl) c.requires.room.1 y.2 (length c.args.text.now) e)
+    (heap_carried c.args.n (take l.literals c.args.lits.now) (take l.clauses c.args.ends.now) (loaded_room heap_reader heap_sound heap_held (λ s. refl) (λ n x. refl) c.requires.room.1 y.2 (length c.args.text.now) e) _ _
+    (rw (sym held) at c.heap_done.ensures))

@@ -13,13 +13,13 @@ abbrev before : (c : Start) → Memory Vsids
 before c = let a = c.args in memory_of a.lits.now a.ends.now a.values.now a.levels.now a.reasons.now a.trail.now a.opened.now a.activity.now a.heap.now a.indices.now a.decision.now blank
 
 pub read_opened-requires : goal.read_opened-requires
-read_opened-requires c = c.in-Heap.ensures
+read_opened-requires c = rw c.in-Heap.is at c.in-Some.ensures
 
 pub returns-in-Heap : goal.returns-in-Heap
 returns-in-Heap c = c.read_opened.ensures
 
 pub returns-in-List : goal.returns-in-List
-returns-in-List c = rw (c.refuse.ensures, c.blank_state.ensures) (answers_list c.in-List.ensures (before (goal.at.returns-in-List c).Start))
+returns-in-List c = rw (c.refuse-in-List.ensures, c.blank_state-in-List.ensures) (answers_list (rw c.in-List.is at c.in-Some.ensures) (before (goal.at.returns-in-List c).Start))
 
-pub returns-in-Bad : goal.returns-in-Bad
-returns-in-Bad c = rw (c.refuse-in-Bad.ensures, c.blank_state-in-Bad.ensures) (read_none heap_reader c.args.text.now (before (goal.at.returns-in-Bad c).Start) c.in-Bad.ensures)
+pub returns-in_default : goal.returns-in_default
+returns-in_default c = rw (c.refuse.ensures, c.blank_state.ensures) (read_none heap_reader c.args.text.now (before (goal.at.returns-in_default c).Start) c.in_default.ensures)

@@ -1,6 +1,7 @@
 -- `heap_saved::reading::read_opened` meets its contract: by its tests.
 use mathlib.Core.Path.{◌≡◌, sym, ap, ◌∙◌}
 use mathlib.Core.Bool.{Bool, true, false, ◌&&◌}
+use lib.ListN.{length}
 use Rattle.vsids.specs.Vsids.{Vsids}
 use Rattle.session.specs.Mode.{trail_lengths}
 use Rattle.session.specs.Sizes.{trail_sized}
@@ -17,28 +18,32 @@ abbrev before : (c : Start) → Memory Vsids
 before c = let a = c.args in memory_of a.lits.now a.ends.now a.values.now a.levels.now a.reasons.now a.trail.now a.opened.now a.activity.now a.heap.now a.indices.now a.decision.now blank
 
 pub returns-then-n-gt-MAX_VARS : goal.returns-then-n-gt-MAX_VARS
-returns-then-n-gt-MAX_VARS c = rw (c.refuse.ensures, c.blank_state.ensures) (answers_many c.requires (before (goal.at.returns-then-n-gt-MAX_VARS c).Start) c.if-n-gt-MAX_VARS.true c.form_or.ensures)
+returns-then-n-gt-MAX_VARS c = rw (c.refuse.ensures, c.blank_state.ensures) (answers_many c.requires (before (goal.at.returns-then-n-gt-MAX_VARS c).Start) c.if-n-gt-MAX_VARS.true (c.number.ensures ∙ c.form_or.ensures))
 
 pub returns-then-not-trail_lengths : goal.returns-then-not-trail_lengths
-returns-then-not-trail_lengths c = let e : trail_lengths c.args.n (before (goal.at.returns-then-not-trail_lengths c).Start).2 ≡ false = sym (c.trail_lengths.ensures blank.trail) ∙ c.if-not-trail_lengths.true in rw (c.refuse-then-not-trail_lengths.ensures, c.blank_state-then-not-trail_lengths.ensures) (answers_unlike c.requires (before (goal.at.returns-then-not-trail_lengths c).Start) c.if-n-gt-MAX_VARS.false (λ b. ap (λ (x : Bool). x && (heap_lengths c.args.n (before (goal.at.returns-then-not-trail_lengths c).Start).3 && b)) e) c.form_or-then-not-trail_lengths.ensures)
+returns-then-not-trail_lengths c = let e : trail_lengths c.args.n (before (goal.at.returns-then-not-trail_lengths c).Start).2 ≡ false = sym c.trail_lengths.ensures ∙ c.if-not-trail_lengths.true in rw (c.refuse-then-not-trail_lengths.ensures, c.blank_state-then-not-trail_lengths.ensures) (answers_unlike c.requires (before (goal.at.returns-then-not-trail_lengths c).Start) c.if-n-gt-MAX_VARS.false (λ b. ap (λ (x : Bool). x && (heap_lengths c.args.n (before (goal.at.returns-then-not-trail_lengths c).Start).3 && b)) e) (c.number-then-not-trail_lengths.ensures ∙ c.form_or-then-not-trail_lengths.ensures))
 
 pub returns-then-not-heap_lengths : goal.returns-then-not-heap_lengths
-returns-then-not-heap_lengths c = let d : trail_lengths c.args.n (before (goal.at.returns-then-not-heap_lengths c).Start).2 ≡ true = sym (c.trail_lengths.ensures blank.trail) ∙ c.if-not-trail_lengths.false in let e : heap_lengths c.args.n (before (goal.at.returns-then-not-heap_lengths c).Start).3 ≡ false = sym (c.heap_lengths.ensures blank.vsids) ∙ c.if-not-heap_lengths.true in rw (c.refuse-then-not-heap_lengths.ensures, c.blank_state-then-not-heap_lengths.ensures) (answers_unlike c.requires (before (goal.at.returns-then-not-heap_lengths c).Start) c.if-n-gt-MAX_VARS.false (λ b. ap (λ (x : Bool). x && (heap_lengths c.args.n (before (goal.at.returns-then-not-heap_lengths c).Start).3 && b)) d ∙ ap (λ (x : Bool). x && b) e) c.form_or-then-not-heap_lengths.ensures)
+returns-then-not-heap_lengths c = let d : trail_lengths c.args.n (before (goal.at.returns-then-not-heap_lengths c).Start).2 ≡ true = sym c.trail_lengths.ensures ∙ c.if-not-trail_lengths.false in let e : heap_lengths c.args.n (before (goal.at.returns-then-not-heap_lengths c).Start).3 ≡ false = sym c.heap_lengths.ensures ∙ c.if-not-heap_lengths.true in rw (c.refuse-then-not-heap_lengths.ensures, c.blank_state-then-not-heap_lengths.ensures) (answers_unlike c.requires (before (goal.at.returns-then-not-heap_lengths c).Start) c.if-n-gt-MAX_VARS.false (λ b. ap (λ (x : Bool). x && (heap_lengths c.args.n (before (goal.at.returns-then-not-heap_lengths c).Start).3 && b)) d ∙ ap (λ (x : Bool). x && b) e) (c.number-then-not-heap_lengths.ensures ∙ c.form_or-then-not-heap_lengths.ensures))
 
-pub read_few-requires : goal.read_few-requires
-read_few-requires c = let z = trail_sized c.args.n (before (goal.at.read_few-requires c).Start).2 (sym (c.trail_lengths.ensures blank.trail) ∙ c.if-not-trail_lengths.false) in let h = heap_sized c.args.n (before (goal.at.read_few-requires c).Start).3 (sym (c.heap_lengths.ensures blank.vsids) ∙ c.if-not-heap_lengths.false) in record { opens_with = (c.requires, c.if-n-le-FEW.true, c.if-lits.true, c.if-ends.true); lengths = z; activity_len = (h.activity_long, h.heap_long, h.indices_long, h.decision_long) }
+-- the heap's lists are as long as the text's
+heap_as_long : (c : Start) → heap_lengths c.args.n (before c).3 ≡ true → (length c.args.activity.now ≡ c.args.n) × (length c.args.heap.now ≡ c.args.n) × (length c.args.indices.now ≡ c.args.n) × (length c.args.decision.now ≡ c.args.n)
+heap_as_long c e = let h = heap_sized c.args.n (before c).3 e in (h.activity_long, h.heap_long, h.indices_long, h.decision_long)
 
-pub returns-then-ends : goal.returns-then-ends
-returns-then-ends c = c.read_few.ensures
+pub read_in-requires-clause-lengths : goal.read_in-requires-clause-lengths
+read_in-requires-clause-lengths c = trail_sized c.args.n (before (goal.at.read_in-requires-clause-lengths c).Start).2 (sym c.trail_lengths.ensures ∙ c.if-not-trail_lengths.false)
 
-pub read_more-requires : goal.read_more-requires
-read_more-requires c = let z = trail_sized c.args.n (before (goal.at.read_more-requires c).Start).2 (sym (c.trail_lengths.ensures blank.trail) ∙ c.if-not-trail_lengths.false) in let h = heap_sized c.args.n (before (goal.at.read_more-requires c).Start).3 (sym (c.heap_lengths.ensures blank.vsids) ∙ c.if-not-heap_lengths.false) in record { opens_with = (c.requires, c.if-n-le-MORE.true, c.if-lits-2.true, c.if-ends-2.true); lengths = z; activity_len = (h.activity_long, h.heap_long, h.indices_long, h.decision_long) }
+pub read_in-requires-clause-activity_len : goal.read_in-requires-clause-activity_len
+read_in-requires-clause-activity_len c = heap_as_long (goal.at.read_in-requires-clause-activity_len c).Start (sym c.heap_lengths.ensures ∙ c.if-not-heap_lengths.false)
 
-pub returns-then-ends-2 : goal.returns-then-ends-2
-returns-then-ends-2 c = c.read_more.ensures
+pub read_in-requires-then-ends-le-MORE_CLAUSES-clause-lengths : goal.read_in-requires-then-ends-le-MORE_CLAUSES-clause-lengths
+read_in-requires-then-ends-le-MORE_CLAUSES-clause-lengths c = trail_sized c.args.n (before (goal.at.read_in-requires-then-ends-le-MORE_CLAUSES-clause-lengths c).Start).2 (sym c.trail_lengths.ensures ∙ c.if-not-trail_lengths.false)
 
-pub read_all-requires : goal.read_all-requires
-read_all-requires c = let z = trail_sized c.args.n (before (goal.at.read_all-requires c).Start).2 (sym (c.trail_lengths.ensures blank.trail) ∙ c.if-not-trail_lengths.false) in let h = heap_sized c.args.n (before (goal.at.read_all-requires c).Start).3 (sym (c.heap_lengths.ensures blank.vsids) ∙ c.if-not-heap_lengths.false) in record { opens_with = (c.requires, c.if-n-gt-MAX_VARS.false); lengths = z; activity_len = (h.activity_long, h.heap_long, h.indices_long, h.decision_long) }
+pub read_in-requires-then-ends-le-MORE_CLAUSES-clause-activity_len : goal.read_in-requires-then-ends-le-MORE_CLAUSES-clause-activity_len
+read_in-requires-then-ends-le-MORE_CLAUSES-clause-activity_len c = heap_as_long (goal.at.read_in-requires-then-ends-le-MORE_CLAUSES-clause-activity_len c).Start (sym c.heap_lengths.ensures ∙ c.if-not-heap_lengths.false)
 
-pub returns : goal.returns
-returns c = c.read_all.ensures
+pub read_in-requires-2-clause-lengths : goal.read_in-requires-2-clause-lengths
+read_in-requires-2-clause-lengths c = trail_sized c.args.n (before (goal.at.read_in-requires-2-clause-lengths c).Start).2 (sym c.trail_lengths.ensures ∙ c.if-not-trail_lengths.false)
+
+pub read_in-requires-2-clause-activity_len : goal.read_in-requires-2-clause-activity_len
+read_in-requires-2-clause-activity_len c = heap_as_long (goal.at.read_in-requires-2-clause-activity_len c).Start (sym c.heap_lengths.ensures ∙ c.if-not-heap_lengths.false)

@@ -1,4 +1,4 @@
--- `heap_session::on_trail::go_back` meets its contract: going back puts nothing on the trail.
+-- `go_back` meets its contract: going back puts nothing on the trail.
 use mathlib.Core.Path.{ap}
 use mathlib.Core.List.{[]}
 use native.Mathlib.Omega.{arith}
@@ -8,8 +8,8 @@ use Rattle.heap_session.proofs.on_trail.Going.{back_trail}
 use Rattle.heap_session.proofs.on_trail.Outcomes.{gone_back}
 use Rattle.heap_session.proofs.on_trail.go_back.Goals as goal
 
-pub overflow_sub-t : goal.overflow_sub-t
-overflow_sub-t c = omega (arith, ap (λ (t : Trail). t.len) (back_trail 0 0 [] [] _ _ _ (c.went_back-back.ensures 0 0 [] [])), back_len c.args.level c.requires.trail)
+pub overflow_sub-result : goal.overflow_sub-result
+overflow_sub-result c = omega (arith, ap (λ (t : Trail). t.len) (back_trail 0 0 [] [] _ _ _ (c.went_back.ensures.went_back 0 0 [] [])), back_len c.args.level c.requires.trail)
 
-pub returns : goal.returns
-returns c = λ n m lits ends. rw c.accept.ensures (gone_back n m lits ends _ _ _ (c.went_back-back.ensures n m lits ends))
+pub returns-clause-answered : goal.returns-clause-answered
+returns-clause-answered c = λ n m lits ends. gone_back n m lits ends _ _ _ (c.went_back.ensures.went_back n m lits ends)

@@ -1,32 +1,29 @@
 -- `list_desk::fresh::list_fresh` meets its contract: the session passes its check, and its lines and its text follow.
 use mathlib.Core.Path.{sym, ◌∙◌}
-use mathlib.Core.Bool.{false≢true}
+use mathlib.Core.Bool.{true≢false}
 use native.Mathlib.Omega.{arith}
-use borrow.Author.Tests.{not-true}
-use Rattle.list_sheet.specs.Start.{clause_literals}
+use Rattle.list_sheet.specs.Start.{started_good, started_passes}
 use Rattle.list_desk.specs.Saving.{list_fresh, list_started}
 use Rattle.list_desk.proofs.fresh.list_fresh.Goals as goal
 
-pub overflow_cast-ends : goal.overflow_cast-ends
-overflow_cast-ends c =
-    omega (arith, c.requires.room.2.list.few_clauses)
+pub overflow_cast-list : goal.overflow_cast-list
+overflow_cast-list c = omega (arith, c.requires.room.2.list.few_clauses)
 
-pub start-a-requires : goal.start-a-requires
-start-a-requires c =
-    record { lengths = c.requires.lengths; n_le_max_vars = (c.requires.room.1, clause_literals c.requires.room.2) }
+pub check-requires : goal.check-requires
+check-requires c =
+    let v = c.view.ensures in
+    let g = started_good c.args.list.lits.now c.requires.room.1 (v.trail ∙ c.requires.fresh.0) (v.list ∙ c.requires.fresh.1) 0 in
+    let lengths = g.trail.lengths in
+    let linked = g.list.1.linked in
+    record { lengths = rw lengths.values_long lengths; small = omega (arith, lengths.values_long, c.requires.room.1); even = (linked.prev_long ∙ sym linked.next_long, g.list.1.ts_long ∙ sym linked.next_long) }
 
-pub returns-then-not-a : goal.returns-then-not-a
-returns-then-not-a c =
-    let a = c.start-a in
-    absurd (false≢true (sym (not-true _ c.if-not-a.true) ∙ a.ensures.good_value))
+pub returns-then-not-check : goal.returns-then-not-check
+returns-then-not-check c =
+    let v = c.view.ensures in
+    absurd (true≢false (sym (c.check.ensures ∙ started_passes c.args.list.lits.now c.requires.room.1 (v.trail ∙ c.requires.fresh.0) (v.list ∙ c.requires.fresh.1) _) ∙ c.if-not-check.true))
 
 pub list_done-requires : goal.list_done-requires
-list_done-requires c =
-    let a = c.start-a.ensures in
-    record { room = (c.requires.room.0, c.requires.room.3); savable = list_fresh c.args.lits.now c.args.ends.now a.trail_after a.vmtf_after c.requires.room.1 c.requires.room.2 }
+list_done-requires c = record { room = (c.requires.room.0, c.requires.room.3); savable = list_fresh c.args.list.lits.now c.args.list.ends.now c.requires.fresh.0 c.requires.fresh.1 c.requires.room.1 c.requires.room.2 }
 
 pub returns : goal.returns
-returns c =
-    let a = c.start-a.ensures in
-    let d = c.list_done in
-    list_started c.args.lits.now c.args.ends.now a.trail_after a.vmtf_after d.ensures
+returns c = list_started c.args.list.lits.now c.args.list.ends.now c.requires.fresh.0 c.requires.fresh.1 c.list_done.ensures

@@ -6,7 +6,7 @@ use Rattle.saved_state.specs.Answering.{read_none}
 use Rattle.list_saved.proofs.reading.read.Goals as goal
 
 pub read_opened-requires : goal.read_opened-requires
-read_opened-requires c = c.in-List.ensures
+read_opened-requires c = rw c.in-List.is at c.in-Some.ensures
 
 pub returns-in-List : goal.returns-in-List
 returns-in-List c = c.read_opened.ensures
@@ -15,10 +15,10 @@ pub returns-in-Heap : goal.returns-in-Heap
 returns-in-Heap c =
     let a = c.args in
     let lent = memory_of a.lits.now a.ends.now a.values.now a.levels.now a.reasons.now a.trail.now a.opened.now a.next.now a.prev.now a.ts.now blank in
-    rw (c.refuse.ensures, c.blank_state.ensures) (answers_heap c.in-Heap.ensures lent)
+    rw (c.refuse-in-Heap.ensures, c.blank_state-in-Heap.ensures) (answers_heap (rw c.in-Heap.is at c.in-Some.ensures) lent)
 
-pub returns-in-Bad : goal.returns-in-Bad
-returns-in-Bad c =
+pub returns-in_default : goal.returns-in_default
+returns-in_default c =
     let a = c.args in
     let lent = memory_of a.lits.now a.ends.now a.values.now a.levels.now a.reasons.now a.trail.now a.opened.now a.next.now a.prev.now a.ts.now blank in
-    rw (c.refuse-in-Bad.ensures, c.blank_state-in-Bad.ensures) (read_none list_reader c.args.text.now lent c.in-Bad.ensures)
+    rw (c.refuse.ensures, c.blank_state.ensures) (read_none list_reader c.args.text.now lent c.in_default.ensures)

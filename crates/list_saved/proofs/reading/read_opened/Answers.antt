@@ -3,62 +3,56 @@ use Rattle.list_entry.specs.Checked.{list_sized}
 use Rattle.list_entry.specs.Entry.{blank, list_lengths}
 use Rattle.list_saved.specs.Reader.{memory_of}
 use Rattle.list_saved.specs.Reading.{answers_many, answers_unlike}
+use Rattle.saved_state.specs.Entry.{Memory}
 use Rattle.session.specs.Mode.{trail_lengths}
 use Rattle.session.specs.Sizes.{trail_sized}
+use Rattle.vmtf.specs.Vmtf.{Vmtf}
+use lib.ListN.{length}
 use mathlib.Core.Bool.{Bool, true, false, ◌&&◌}
 use mathlib.Core.Path.{◌≡◌, sym, ap, ◌∙◌}
 use Rattle.list_saved.proofs.reading.read_opened.Goals as goal
+use Rattle.list_saved.proofs.reading.read_opened.Goals.{Start}
+
+-- the memory as lent
+abbrev before : (c : Start) → Memory Vmtf
+before c = let a = c.args in memory_of a.lits.now a.ends.now a.values.now a.levels.now a.reasons.now a.trail.now a.opened.now a.next.now a.prev.now a.ts.now blank
 
 pub returns-then-n-gt-MAX_VARS : goal.returns-then-n-gt-MAX_VARS
 returns-then-n-gt-MAX_VARS c =
-    let a = c.args in
-    let lent = memory_of a.lits.now a.ends.now a.values.now a.levels.now a.reasons.now a.trail.now a.opened.now a.next.now a.prev.now a.ts.now blank in
-    rw (c.refuse.ensures, c.blank_state.ensures) (answers_many c.requires lent c.if-n-gt-MAX_VARS.true c.form_or.ensures)
+    let lent = before (goal.at.returns-then-n-gt-MAX_VARS c).Start in
+    rw (c.refuse.ensures, c.blank_state.ensures) (answers_many c.requires lent c.if-n-gt-MAX_VARS.true (c.number.ensures ∙ c.form_or.ensures))
 
 pub returns-then-not-trail_lengths : goal.returns-then-not-trail_lengths
 returns-then-not-trail_lengths c =
-    let a = c.args in
-    let lent = memory_of a.lits.now a.ends.now a.values.now a.levels.now a.reasons.now a.trail.now a.opened.now a.next.now a.prev.now a.ts.now blank in
-    let e : trail_lengths c.args.n lent.2 ≡ false = sym (c.trail_lengths.ensures blank.trail) ∙ c.if-not-trail_lengths.true in
-    rw (c.refuse-then-not-trail_lengths.ensures, c.blank_state-then-not-trail_lengths.ensures) (answers_unlike c.requires lent c.if-n-gt-MAX_VARS.false (λ b. ap (λ (x : Bool). x && (list_lengths c.args.n lent.3 && b)) e) c.form_or-then-not-trail_lengths.ensures)
+    let lent = before (goal.at.returns-then-not-trail_lengths c).Start in
+    let e : trail_lengths c.args.n lent.2 ≡ false = sym c.trail_lengths.ensures ∙ c.if-not-trail_lengths.true in
+    rw (c.refuse-then-not-trail_lengths.ensures, c.blank_state-then-not-trail_lengths.ensures) (answers_unlike c.requires lent c.if-n-gt-MAX_VARS.false (λ b. ap (λ (x : Bool). x && (list_lengths c.args.n lent.3 && b)) e) (c.number-then-not-trail_lengths.ensures ∙ c.form_or-then-not-trail_lengths.ensures))
 
 pub returns-then-not-list_lengths : goal.returns-then-not-list_lengths
 returns-then-not-list_lengths c =
-    let a = c.args in
-    let lent = memory_of a.lits.now a.ends.now a.values.now a.levels.now a.reasons.now a.trail.now a.opened.now a.next.now a.prev.now a.ts.now blank in
-    let d : trail_lengths c.args.n lent.2 ≡ true = sym (c.trail_lengths.ensures blank.trail) ∙ c.if-not-trail_lengths.false in
-    let e : list_lengths c.args.n lent.3 ≡ false = sym (c.list_lengths.ensures blank.vmtf) ∙ c.if-not-list_lengths.true in
-    rw (c.refuse-then-not-list_lengths.ensures, c.blank_state-then-not-list_lengths.ensures) (answers_unlike c.requires lent c.if-n-gt-MAX_VARS.false (λ b. ap (λ (x : Bool). x && (list_lengths c.args.n lent.3 && b)) d ∙ ap (λ (x : Bool). x && b) e) c.form_or-then-not-list_lengths.ensures)
+    let lent = before (goal.at.returns-then-not-list_lengths c).Start in
+    let d : trail_lengths c.args.n lent.2 ≡ true = sym c.trail_lengths.ensures ∙ c.if-not-trail_lengths.false in
+    let e : list_lengths c.args.n lent.3 ≡ false = sym c.list_lengths.ensures ∙ c.if-not-list_lengths.true in
+    rw (c.refuse-then-not-list_lengths.ensures, c.blank_state-then-not-list_lengths.ensures) (answers_unlike c.requires lent c.if-n-gt-MAX_VARS.false (λ b. ap (λ (x : Bool). x && (list_lengths c.args.n lent.3 && b)) d ∙ ap (λ (x : Bool). x && b) e) (c.number-then-not-list_lengths.ensures ∙ c.form_or-then-not-list_lengths.ensures))
 
-pub read_few-requires : goal.read_few-requires
-read_few-requires c =
-    let a = c.args in
-    let lent = memory_of a.lits.now a.ends.now a.values.now a.levels.now a.reasons.now a.trail.now a.opened.now a.next.now a.prev.now a.ts.now blank in
-    let t = trail_sized c.args.n lent.2 (sym (c.trail_lengths.ensures blank.trail) ∙ c.if-not-trail_lengths.false) in
-    let l = list_sized c.args.n lent.3 (sym (c.list_lengths.ensures blank.vmtf) ∙ c.if-not-list_lengths.false) in
-    record { opens_with = (c.requires, c.if-n-le-FEW.true, c.if-lits.true, c.if-ends.true); lengths = t; next_len = (l.next_long, l.prev_long, l.ts_long) }
+-- the links and the stamps are as long as the text's
+list_as_long : (c : Start) → list_lengths c.args.n (before c).3 ≡ true → (length c.args.next.now ≡ c.args.n) × (length c.args.prev.now ≡ c.args.n) × (length c.args.ts.now ≡ c.args.n)
+list_as_long c e = let l = list_sized c.args.n (before c).3 e in (l.next_long, l.prev_long, l.ts_long)
 
-pub returns-then-ends : goal.returns-then-ends
-returns-then-ends c = c.read_few.ensures
+pub read_in-requires-clause-lengths : goal.read_in-requires-clause-lengths
+read_in-requires-clause-lengths c = trail_sized c.args.n (before (goal.at.read_in-requires-clause-lengths c).Start).2 (sym c.trail_lengths.ensures ∙ c.if-not-trail_lengths.false)
 
-pub read_more-requires : goal.read_more-requires
-read_more-requires c =
-    let a = c.args in
-    let lent = memory_of a.lits.now a.ends.now a.values.now a.levels.now a.reasons.now a.trail.now a.opened.now a.next.now a.prev.now a.ts.now blank in
-    let t = trail_sized c.args.n lent.2 (sym (c.trail_lengths.ensures blank.trail) ∙ c.if-not-trail_lengths.false) in
-    let l = list_sized c.args.n lent.3 (sym (c.list_lengths.ensures blank.vmtf) ∙ c.if-not-list_lengths.false) in
-    record { opens_with = (c.requires, c.if-n-le-MORE.true, c.if-lits-2.true, c.if-ends-2.true); lengths = t; next_len = (l.next_long, l.prev_long, l.ts_long) }
+pub read_in-requires-clause-next_len : goal.read_in-requires-clause-next_len
+read_in-requires-clause-next_len c = list_as_long (goal.at.read_in-requires-clause-next_len c).Start (sym c.list_lengths.ensures ∙ c.if-not-list_lengths.false)
 
-pub returns-then-ends-2 : goal.returns-then-ends-2
-returns-then-ends-2 c = c.read_more.ensures
+pub read_in-requires-then-ends-le-MORE_CLAUSES-clause-lengths : goal.read_in-requires-then-ends-le-MORE_CLAUSES-clause-lengths
+read_in-requires-then-ends-le-MORE_CLAUSES-clause-lengths c = trail_sized c.args.n (before (goal.at.read_in-requires-then-ends-le-MORE_CLAUSES-clause-lengths c).Start).2 (sym c.trail_lengths.ensures ∙ c.if-not-trail_lengths.false)
 
-pub read_all-requires : goal.read_all-requires
-read_all-requires c =
-    let a = c.args in
-    let lent = memory_of a.lits.now a.ends.now a.values.now a.levels.now a.reasons.now a.trail.now a.opened.now a.next.now a.prev.now a.ts.now blank in
-    let t = trail_sized c.args.n lent.2 (sym (c.trail_lengths.ensures blank.trail) ∙ c.if-not-trail_lengths.false) in
-    let l = list_sized c.args.n lent.3 (sym (c.list_lengths.ensures blank.vmtf) ∙ c.if-not-list_lengths.false) in
-    record { opens_with = (c.requires, c.if-n-gt-MAX_VARS.false); lengths = t; next_len = (l.next_long, l.prev_long, l.ts_long) }
+pub read_in-requires-then-ends-le-MORE_CLAUSES-clause-next_len : goal.read_in-requires-then-ends-le-MORE_CLAUSES-clause-next_len
+read_in-requires-then-ends-le-MORE_CLAUSES-clause-next_len c = list_as_long (goal.at.read_in-requires-then-ends-le-MORE_CLAUSES-clause-next_len c).Start (sym c.list_lengths.ensures ∙ c.if-not-list_lengths.false)
 
-pub returns : goal.returns
-returns c = c.read_all.ensures
+pub read_in-requires-2-clause-lengths : goal.read_in-requires-2-clause-lengths
+read_in-requires-2-clause-lengths c = trail_sized c.args.n (before (goal.at.read_in-requires-2-clause-lengths c).Start).2 (sym c.trail_lengths.ensures ∙ c.if-not-trail_lengths.false)
+
+pub read_in-requires-2-clause-next_len : goal.read_in-requires-2-clause-next_len
+read_in-requires-2-clause-next_len c = list_as_long (goal.at.read_in-requires-2-clause-next_len c).Start (sym c.list_lengths.ensures ∙ c.if-not-list_lengths.false)

@@ -2,6 +2,8 @@
 use Prim.Native.Nat.{ℕ, ◌≤◌}
 use Rattle.lit.specs.Numbers.{NONE, max_literals, max_clauses}
 use Rattle.list_entry.specs.Entry.{blank}
+use Rattle.lit.specs.Refusals.{refusal_above}
+use Rattle.list_saved.specs.Loading.{state_in}
 use Rattle.list_saved.specs.Reader.{list_reader, memory_of}
 use Rattle.list_saved.specs.Reading.{answers_refused, counts_fit, answers_taken}
 use Rattle.list_session.specs.Memory.{answer}
@@ -15,30 +17,28 @@ use lib.ListN.{length, take}
 use mathlib.Core.Path.{◌≡◌, sym, ap, subst, ◌∙◌}
 use native.Mathlib.Omega.{arith}
 use Rattle.list_saved.proofs.reading.settle.Goals as goal
-use Rattle.list_saved.proofs.reading.settle.Goals.{Else-k-ne0}
+use Rattle.list_saved.proofs.reading.settle.Goals.{In-Ok}
 
 -- without a refusal the counts are those of the slices
-fits : (c : Else-k-ne0) → let a = c.args in (length a.lits.now ≡ a.l.literals) × (length a.ends.now ≡ a.l.clauses) × (a.l.literals ≤ max_literals) × (a.l.clauses ≤ max_clauses)
+fits : (c : In-Ok) → let a = c.args in (length a.lits.now ≡ a.l.literals) × (length a.ends.now ≡ a.l.clauses) × (a.l.literals ≤ max_literals) × (a.l.clauses ≤ max_clauses)
 fits c =
     let a = c.args in
     let x = c.requires.by_index in
     let before = memory_of a.lits.now a.ends.now a.values.now a.levels.now a.reasons.now a.trail.now a.opened.now a.next.now a.prev.now a.ts.now blank in
-    counts_fit x.2 a.l a.own_lits.now a.own_ends.now (take a.n a.own_values.now) (take a.n a.own_levels.now) (take a.n a.own_reasons.now) (take a.n a.own_trail.now) (take a.n a.own_opened.now) (take a.n a.own_next.now) (take a.n a.own_prev.now) (take a.n a.own_ts.now) x.3 before c.requires.lengths (record { next_long = c.requires.next_len.0; prev_long = c.requires.next_len.1; ts_long = c.requires.next_len.2 }) (sym c.if-k-ne0.false ∙ c.verdict-k.ensures)
+    counts_fit x.2 a.l a.own_lits.now a.own_ends.now (take a.n a.own_values.now) (take a.n a.own_levels.now) (take a.n a.own_reasons.now) (take a.n a.own_trail.now) (take a.n a.own_opened.now) (take a.n a.own_next.now) (take a.n a.own_prev.now) (take a.n a.own_ts.now) x.3 before c.requires.lengths (record { next_long = c.requires.next_len.0; prev_long = c.requires.next_len.1; ts_long = c.requires.next_len.2 }) (rw c.in-Ok.is at c.verdict.ensures.status)
 
-pub verdict-k-requires : goal.verdict-k-requires
-verdict-k-requires c = c.requires.n_le_max_vars.0
+pub verdict-requires : goal.verdict-requires
+verdict-requires c = c.requires.n_le_max_vars.0
 
-pub returns-then-k-ne0 : goal.returns-then-k-ne0
-returns-then-k-ne0 c = λ text at w k.
-    (let a = c.args in
+pub returns-in-Err : goal.returns-in-Err
+returns-in-Err c text at w k =
+    let a = c.args in
     let before = memory_of a.lits.now a.ends.now a.values.now a.levels.now a.reasons.now a.trail.now a.opened.now a.next.now a.prev.now a.ts.now blank in
-    subst (λ (r : ListAnswer). Answered (read list_reader text before) before r.status r.reply (memory_of a.lits.now a.ends.now a.values.now a.levels.now a.reasons.now a.trail.now a.opened.now a.next.now a.prev.now a.ts.now r.state))
-    (sym (c.refuse.ensures ∙ ap (λ (b : ListState). answer c.verdict-k.result NONE b) c.blank_state.ensures))
-    (answers_refused w a.l a.own_lits.now a.own_ends.now (take a.n a.own_values.now) (take a.n a.own_levels.now) (take a.n a.own_reasons.now) (take a.n a.own_trail.now) (take a.n a.own_opened.now) (take a.n a.own_next.now) (take a.n a.own_prev.now) (take a.n a.own_ts.now) k before c.requires.lengths (record { next_long = c.requires.next_len.0; prev_long = c.requires.next_len.1; ts_long = c.requires.next_len.2 }) c.verdict-k.ensures c.if-k-ne0.true))
+    rw (c.refuse.ensures, c.blank_state.ensures, c.number.ensures) (answers_refused w a.l _ _ _ _ _ _ _ _ _ _ k before c.requires.lengths (record { next_long = c.requires.next_len.0; prev_long = c.requires.next_len.1; ts_long = c.requires.next_len.2 }) (rw c.in-Err.is at c.verdict.ensures.status) (λ z. omega (arith, refusal_above c.in-Err.e, z)))
 
 pub copy_clauses-requires : goal.copy_clauses-requires
 copy_clauses-requires c =
-    let f = fits (goal.at.copy_clauses-requires c).Else-k-ne0 in
+    let f = fits (goal.at.copy_clauses-requires c).In-Ok in
     (c.requires.n_le_max_vars.1 (omega (arith, f.0, f.2)), c.requires.n_le_max_vars.2 (omega (arith, f.1, f.3)))
 
 pub copy_trail-requires : goal.copy_trail-requires
@@ -57,7 +57,7 @@ pub returns : goal.returns
 returns c = λ text at w k.
     (let a = c.args in
     let before = memory_of a.lits.now a.ends.now a.values.now a.levels.now a.reasons.now a.trail.now a.opened.now a.next.now a.prev.now a.ts.now blank in
-    let f = fits (goal.at.returns c).Else-k-ne0 in
+    let f = fits (goal.at.returns c).In-Ok in
     let l = c.requires.lengths in
     let m = c.requires.next_len in
     let q = c.copy_clauses.ensures in
@@ -71,11 +71,12 @@ returns c = λ text at w k.
     let next_is : c.copy_list.new.next ≡ take a.n a.own_next.now = u.0 ∙ ap (λ (j : ℕ). take j a.own_next.now) m.0 in
     let prev_is : c.copy_list.new.prev ≡ take a.n a.own_prev.now = u.1 ∙ ap (λ (j : ℕ). take j a.own_prev.now) m.1 in
     let ts_are : c.copy_list.new.ts ≡ take a.n a.own_ts.now = u.2 ∙ ap (λ (j : ℕ). take j a.own_ts.now) m.2 in
+    let held : state_in a.l.state ≡ c.in-Ok.state = ap state_in (c.verdict.ensures.state_is c.in-Ok.state c.in-Ok.is) in
     subst (λ (r : ListAnswer). Answered (read list_reader text before) before r.status r.reply (memory_of c.copy_clauses.new.lits c.copy_clauses.new.ends c.copy_trail.new.values c.copy_trail.new.levels c.copy_trail.new.reasons c.copy_trail.new.trail c.copy_trail.new.opened c.copy_list.new.next c.copy_list.new.prev c.copy_list.new.ts r.state))
-    (sym c.accept.ensures)
-    (answers_taken w a.l a.own_lits.now a.own_ends.now (take a.n a.own_values.now) (take a.n a.own_levels.now) (take a.n a.own_reasons.now) (take a.n a.own_trail.now) (take a.n a.own_opened.now) (take a.n a.own_next.now) (take a.n a.own_prev.now) (take a.n a.own_ts.now) k before c.requires.lengths (record { next_long = c.requires.next_len.0; prev_long = c.requires.next_len.1; ts_long = c.requires.next_len.2 }) (sym c.if-k-ne0.false ∙ c.verdict-k.ensures)
+    (sym (c.accept.ensures ∙ ap (λ (x : ListState). answer 0 NONE x) (sym held)))
+    (answers_taken w a.l a.own_lits.now a.own_ends.now (take a.n a.own_values.now) (take a.n a.own_levels.now) (take a.n a.own_reasons.now) (take a.n a.own_trail.now) (take a.n a.own_opened.now) (take a.n a.own_next.now) (take a.n a.own_prev.now) (take a.n a.own_ts.now) k before c.requires.lengths (record { next_long = c.requires.next_len.0; prev_long = c.requires.next_len.1; ts_long = c.requires.next_len.2 }) (rw c.in-Ok.is at c.verdict.ensures.status)
     (omega (arith, f.0, c.requires.n_le_max_vars.1 (omega (arith, f.0, f.2)))) (omega (arith, f.1, c.requires.n_le_max_vars.2 (omega (arith, f.1, f.3))))
-    (memory_of c.copy_clauses.new.lits c.copy_clauses.new.ends c.copy_trail.new.values c.copy_trail.new.levels c.copy_trail.new.reasons c.copy_trail.new.trail c.copy_trail.new.opened c.copy_list.new.next c.copy_list.new.prev c.copy_list.new.ts a.l.state)
+    (memory_of c.copy_clauses.new.lits c.copy_clauses.new.ends c.copy_trail.new.values c.copy_trail.new.levels c.copy_trail.new.reasons c.copy_trail.new.trail c.copy_trail.new.opened c.copy_list.new.next c.copy_list.new.prev c.copy_list.new.ts (state_in a.l.state))
     (q.0 ∙ ap (λ (j : ℕ). take j a.own_lits.now) f.0) (q.1 ∙ ap (λ (j : ℕ). take j a.own_ends.now) f.1)
-    (λ i. trail_of (values_are i) (levels_are i) (reasons_are i) (trail_is i) (opened_are i) a.l.state.trail)
-    (λ i. vmtf_of (next_is i) (prev_is i) (ts_are i) a.l.state.vmtf)))
+    (λ i. trail_of (values_are i) (levels_are i) (reasons_are i) (trail_is i) (opened_are i) (state_in a.l.state).trail)
+    (λ i. vmtf_of (next_is i) (prev_is i) (ts_are i) (state_in a.l.state).vmtf)))

@@ -8,29 +8,16 @@ use Rattle.vmtf.specs.Laws.{copied_next, copied_end, stamp_at}
 use Rattle.move_to_front.proofs.order.read_stamps.Goals as goal
 
 pub loop-i-init : goal.loop-i-init
-loop-i-init c = let s = c.requires in record { at = omega arith; stamps_are = refl; order-are = refl; stamps_long = s.stamps_len.0; order_long = s.stamps_len.1 }
-
-pub stamp_of-requires : goal.stamp_of-requires
-stamp_of-requires c = c.requires.vars _ (omega arith)
-
-pub offset_bounds-stamps-i : goal.offset_bounds-stamps-i
-offset_bounds-stamps-i c = omega (arith, c.loop-i.invariant.stamps_long, c.requires.stamps_len.0)
-
-pub bounds-stamps-i : goal.bounds-stamps-i
-bounds-stamps-i c = omega (arith, c.loop-i.invariant.stamps_long)
-
-pub bounds-order-i : goal.bounds-order-i
-bounds-order-i c = omega (arith, c.loop-i.invariant.order_long)
+loop-i-init c = let s = c.requires in record { stamps_are = refl; order-are = refl; stamps_long = s.stamps_len.0; order_long = s.stamps_len.1 }
 
 pub loop-i-preserved : goal.loop-i-preserved
 loop-i-preserved c =
     let i = c.loop-i.i in
     let v = c.loop-i.invariant in
     let h : i < length c.args.vars.now = omega arith in
-    let long : length c.args.stamps.now ≡ length (stamps_of c.args.ts.now c.args.vars.now) = c.requires.stamps_len.0 ∙ sym (length-map c.args.vars.now _) in
+    let long : length c.args.stamps.now ≡ length (stamps_of c.args.list.now.ts.now c.args.vars.now) = c.requires.stamps_len.0 ∙ sym (length-map c.args.vars.now _) in
     record {
-      at = omega arith;
-      stamps_are = rw v.stamps_are (copied_next (stamps_of c.args.ts.now c.args.vars.now) c.args.stamps.now i _ (simp length-map h) long (c.stamp_of.ensures ∙ stamp_at c.args.ts.now c.args.vars.now i h));
+      stamps_are = rw v.stamps_are (copied_next (stamps_of c.args.list.now.ts.now c.args.vars.now) c.args.stamps.now i _ (simp length-map h) long (stamp_at c.args.list.now.ts.now c.args.vars.now i h));
       order-are = rw v.order-are (copied_next c.args.vars.now c.args.order.now i _ h c.requires.stamps_len.1 refl);
       stamps_long = simp length-set v.stamps_long;
       order_long = simp length-set v.order_long;
@@ -41,6 +28,6 @@ returns c =
     let i = c.loop-i.i in
     let v = c.loop-i.invariant in
     let h : length c.args.vars.now ≤ i = omega arith in (
-      v.stamps_are ∙ copied_end (stamps_of c.args.ts.now c.args.vars.now) c.args.stamps.now i (simp length-map h) (c.requires.stamps_len.0 ∙ sym (length-map c.args.vars.now _)),
+      v.stamps_are ∙ copied_end (stamps_of c.args.list.now.ts.now c.args.vars.now) c.args.stamps.now i (simp length-map h) (c.requires.stamps_len.0 ∙ sym (length-map c.args.vars.now _)),
       v.order-are ∙ copied_end c.args.vars.now c.args.order.now i h c.requires.stamps_len.1,
     )

@@ -12,14 +12,10 @@ pub slice_bounds-read_first-end : goal.slice_bounds-read_first-end
 slice_bounds-read_first-end c =
     sym (length-take-le c.find-end.result c.args.sheet.now (omega (arith, c.find-end.ensures, find_length newline c.args.sheet.now)))
 
-pub returns-in-Bad : goal.returns-in-Bad
-returns-in-Bad c =
-    rw (first_read (length c.args.text.now) c.requires.0 c.requires.1 c.find-end.ensures c.read_first.ensures, c.in-Bad.is) (c.refused_first.ensures c.args.text.now)
+pub returns-in-None : goal.returns-in-None
+returns-in-None c =
+    rw (first_read (length c.args.text.now) c.requires.0 c.requires.1 c.find-end.ensures c.read_first.ensures, c.in-None.is) (c.refused_first.ensures c.args.text.now)
 
-pub returns-in-Heap : goal.returns-in-Heap
-returns-in-Heap c =
-    rw (first_read (length c.args.text.now) c.requires.0 c.requires.1 c.find-end.ensures c.read_first.ensures, c.in-Heap.is) c.«open».ensures
-
-pub returns-in-List : goal.returns-in-List
-returns-in-List c =
-    rw (first_read (length c.args.text.now) c.requires.0 c.requires.1 c.find-end.ensures c.read_first.ensures, c.in-List.is) c.open-in-List.ensures
+pub returns-in-Some : goal.returns-in-Some
+returns-in-Some c =
+    rw (first_read (length c.args.text.now) c.requires.0 c.requires.1 c.find-end.ensures c.read_first.ensures, c.in-Some.is) c.«open».ensures

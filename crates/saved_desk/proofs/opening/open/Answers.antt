@@ -12,10 +12,10 @@ use Rattle.saved_desk.specs.New.{first_many, first_few}
 use borrow.Author.Rules.{rules}
 use Rattle.saved_desk.proofs.opening.open.Goals as goal
 
-pub returns-then-n-gt-MAX_VARS : goal.returns-then-n-gt-MAX_VARS
-returns-then-n-gt-MAX_VARS c =
-    let many : max_vars < c.args.n = search rules in
-    rw (first_many c.args.heap c.args.n (length c.args.text.now) (lines_from c.args.sheet.now (c.args.end + 1)) many) (c.refused_first.ensures c.args.text.now)
+pub returns-then-o-gt-MAX_VARS : goal.returns-then-o-gt-MAX_VARS
+returns-then-o-gt-MAX_VARS c =
+    let many : max_vars < c.args.o.vars = search rules in
+    rw (first_many c.args.o.mode c.args.o.vars (length c.args.text.now) (lines_from c.args.sheet.now (c.args.end + 1)) many) (c.refused_first.ensures c.args.text.now)
 
 pub second-p-requires : goal.second-p-requires
 second-p-requires c =
@@ -27,21 +27,21 @@ next_is_clause-requires c =
 
 pub without_clauses-requires : goal.without_clauses-requires
 without_clauses-requires c =
-    let few : c.args.n ≤ max_vars = search rules in
+    let few : c.args.o.vars ≤ max_vars = search rules in
     let e : c.next_is_clause.result ≡ false = c.if-not-next_is_clause.true in
     record { room = (c.requires.0, c.requires.1, c.requires.2, few); end_value = sym (rw c.second-p.ensures at c.next_is_clause.ensures) ∙ e }
 
 pub returns-then-not-next_is_clause : goal.returns-then-not-next_is_clause
 returns-then-not-next_is_clause c =
-    let few : c.args.n ≤ max_vars = search rules in
-    rw (first_few c.args.heap c.args.n (length c.args.text.now) (lines_from c.args.sheet.now (c.args.end + 1)) few) c.without_clauses.ensures
+    let few : c.args.o.vars ≤ max_vars = search rules in
+    rw (first_few c.args.o.mode c.args.o.vars (length c.args.text.now) (lines_from c.args.sheet.now (c.args.end + 1)) few) c.without_clauses.ensures
 
 pub returns-then-sheet-le-SHORT : goal.returns-then-sheet-le-SHORT
 returns-then-sheet-le-SHORT c =
-    let few : c.args.n ≤ max_vars = search rules in
-    rw (first_few c.args.heap c.args.n (length c.args.text.now) (lines_from c.args.sheet.now (c.args.end + 1)) few) c.with_clauses.ensures
+    let few : c.args.o.vars ≤ max_vars = search rules in
+    rw (first_few c.args.o.mode c.args.o.vars (length c.args.text.now) (lines_from c.args.sheet.now (c.args.end + 1)) few) c.clauses_in.ensures
 
 pub returns : goal.returns
 returns c =
-    let few : c.args.n ≤ max_vars = search rules in
-    rw (first_few c.args.heap c.args.n (length c.args.text.now) (lines_from c.args.sheet.now (c.args.end + 1)) few) c.with_clauses-2.ensures
+    let few : c.args.o.vars ≤ max_vars = search rules in
+    rw (first_few c.args.o.mode c.args.o.vars (length c.args.text.now) (lines_from c.args.sheet.now (c.args.end + 1)) few) c.clauses_in-2.ensures

@@ -25,7 +25,7 @@ text_fits-requires c =
 pub returns-then-not-text_fits : goal.returns-then-not-text_fits
 returns-then-not-text_fits c =
     let e : c.text_fits.result ≡ false = c.if-not-text_fits.true in
-    new_short c.args.heap c.args.n (lines_from c.args.sheet.now (c.args.end + 1)) c.args.out.now c.args.text.now (sym (rw c.second-unanswered.ensures at c.text_fits.ensures) ∙ e)
+    new_short c.args.o.mode c.args.o.vars (lines_from c.args.sheet.now (c.args.end + 1)) c.args.out.now c.args.text.now (sym (rw c.second-unanswered.ensures at c.text_fits.ensures) ∙ e)
 
 pub answer-at-requires : goal.answer-at-requires
 answer-at-requires c =
@@ -40,26 +40,32 @@ clause_lines-s-requires c =
     let f = c.text_fits in
     rw c.second-p.ensures (ready_first (first_room c.requires.room.0 c.requires.room.1 c.requires.room.2 c.answer-at.ensures) (still_holds f.auto.lits f.auto.ends c.requires.holds.0) (omega (arith, f.auto.lits, c.requires.holds.1)))
 
-pub slice_bounds-session-end-2 : goal.slice_bounds-session-end-2
-slice_bounds-session-end-2 c =
+pub slice_bounds-list-end : goal.slice_bounds-list-end
+slice_bounds-list-end c = c.clause_lines-s.ensures.so_far.ready.slices.few_literals_lem
+
+pub slice_bounds-list-end-3 : goal.slice_bounds-list-end-3
+slice_bounds-list-end-3 c = c.clause_lines-s.ensures.so_far.ready.slices.few_clauses
+
+pub slice_bounds-list-end-2 : goal.slice_bounds-list-end-2
+slice_bounds-list-end-2 c =
     let l = c.clause_lines-s in
     sym (length-take-le l.result.literals l.new.lits l.ensures.so_far.ready.slices.few_literals_lem)
 
-pub slice_bounds-session-end-4 : goal.slice_bounds-session-end-4
-slice_bounds-session-end-4 c =
+pub slice_bounds-list-end-4 : goal.slice_bounds-list-end-4
+slice_bounds-list-end-4 c =
     let l = c.clause_lines-s in
     sym (length-take-le l.result.clauses l.new.ends l.ensures.so_far.ready.slices.few_clauses)
 
-pub session-b-requires : goal.session-b-requires
-session-b-requires c =
+pub session-requires : goal.session-requires
+session-requires c =
     let l = c.clause_lines-s.ensures in
     let e : c.text_fits.result ≡ true = c.if-not-text_fits.false in
-    let room : room_behind c.args.n (lines_from c.args.sheet.now (c.args.end + 1)) ≤ length c.args.text.now = leb-true _ _ (sym (rw c.second-unanswered.ensures at c.text_fits.ensures) ∙ e) in
+    let room : room_behind c.args.o.vars (lines_from c.args.sheet.now (c.args.end + 1)) ≤ length c.args.text.now = leb-true _ _ (sym (rw c.second-unanswered.ensures at c.text_fits.ensures) ∙ e) in
     (l.so_far.ready.room, c.requires.room.3, l.so_far.ready.good, section_room l.so_far l.from_value (length c.args.text.now) refl refl (rw c.second-p.ensures room))
 
 pub returns : goal.returns
 returns c =
     let l = c.clause_lines-s.ensures in
     let e : c.text_fits.result ≡ true = c.if-not-text_fits.false in
-    let room : room_behind c.args.n (lines_from c.args.sheet.now (c.args.end + 1)) ≤ length c.args.text.now = leb-true _ _ (sym (rw c.second-unanswered.ensures at c.text_fits.ensures) ∙ e) in
-    new_saved c.args.heap c.args.n c.args.count c.args.end room c.answer-at.ensures (rw c.second-p.ensures at (section_saves (mode_of c.args.heap) l.so_far l.from_value c.session-b.ensures))
+    let room : room_behind c.args.o.vars (lines_from c.args.sheet.now (c.args.end + 1)) ≤ length c.args.text.now = leb-true _ _ (sym (rw c.second-unanswered.ensures at c.text_fits.ensures) ∙ e) in
+    new_saved c.args.o.mode c.args.o.vars c.args.count c.args.end room c.answer-at.ensures (rw c.second-p.ensures at (section_saves (mode_of c.args.o.mode) l.so_far l.from_value c.session.ensures))

@@ -13,7 +13,7 @@ use Rattle.saved_desk.proofs.opening.without_clauses.Goals as goal
 pub returns-then-text-longest : goal.returns-then-text-longest
 returns-then-text-longest c =
     let ls = lines_from c.args.sheet.now (c.args.end + 1) in
-    new_short c.args.heap c.args.n ls c.args.out.now c.args.text.now (lt-leb (room_behind c.args.n ls) (length c.args.text.now) (omega (arith, room_none c.args.n ls c.requires.end_value, c.longest.ensures, c.if-text-longest.true)))
+    new_short c.args.o.mode c.args.o.vars ls c.args.out.now c.args.text.now (lt-leb (room_behind c.args.o.vars ls) (length c.args.text.now) (omega (arith, room_none c.args.o.vars ls c.requires.end_value, c.longest.ensures, c.if-text-longest.true)))
 
 pub answer-at-requires : goal.answer-at-requires
 answer-at-requires c =
@@ -23,12 +23,12 @@ pub second-p-requires : goal.second-p-requires
 second-p-requires c =
     (c.requires.room.1, omega (arith, c.requires.room.2, c.requires.room.0.short, line_inside c.requires.room.0 c.requires.room.1))
 
-pub session-b-requires : goal.session-b-requires
-session-b-requires c =
-    rw c.second-p.ensures (first_room c.requires.room.0 c.requires.room.1 c.requires.room.2 c.answer-at.ensures, c.requires.room.3, no_clauses c.args.n, omega (arith, c.longest.ensures, c.if-text-longest.false))
+pub session-requires : goal.session-requires
+session-requires c =
+    rw c.second-p.ensures (first_room c.requires.room.0 c.requires.room.1 c.requires.room.2 c.answer-at.ensures, c.requires.room.3, no_clauses c.args.o.vars, omega (arith, c.longest.ensures, c.if-text-longest.false))
 
 pub returns : goal.returns
 returns c =
     let ls = lines_from c.args.sheet.now (c.args.end + 1) in
-    let room : room_behind c.args.n ls ≤ length c.args.text.now = omega (arith, room_none c.args.n ls c.requires.end_value, c.longest.ensures, c.if-text-longest.false) in
-    new_saved c.args.heap c.args.n c.args.count c.args.end room c.answer-at.ensures (session_saves (mode_of c.args.heap) c.requires.end_value (rw c.second-p.ensures at c.session-b.ensures))
+    let room : room_behind c.args.o.vars ls ≤ length c.args.text.now = omega (arith, room_none c.args.o.vars ls c.requires.end_value, c.longest.ensures, c.if-text-longest.false) in
+    new_saved c.args.o.mode c.args.o.vars c.args.count c.args.end room c.answer-at.ensures (session_saves (mode_of c.args.o.mode) c.requires.end_value (rw c.second-p.ensures at c.session.ensures))

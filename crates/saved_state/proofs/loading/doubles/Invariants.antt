@@ -1,4 +1,3 @@
-use Prim.Native.Nat.{◌-◌}
 use mathlib.Core.List.{map}
 use lib.ListN.{length}
 use lib.Ieee.{binary64, of_bits}
@@ -7,6 +6,3 @@ use Rattle.saved_state.proofs.loading.doubles.Given as goal
 
 abbrev pub invariant-loop-i : goal.invariant-loop-i
 invariant-loop-i l = Front (length l.bits) (map (of_bits binary64) l.bits) l.activity l.i
-
-abbrev pub decreases-loop-i : goal.decreases-loop-i
-decreases-loop-i l = length l.bits - l.i

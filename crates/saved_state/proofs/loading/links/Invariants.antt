@@ -1,4 +1,3 @@
-use Prim.Native.Nat.{◌-◌}
 use mathlib.Core.Path.{◌≡◌}
 use mathlib.Core.List.{◌∷◌}
 use lib.ListN.{length, get_or}
@@ -9,6 +8,3 @@ use Rattle.saved_state.proofs.loading.links.Given as goal
 
 abbrev pub invariant-loop-i : goal.invariant-loop-i
 invariant-loop-i l = Along (length l.order) l.order (behind_each l.order) l.initial.next l.next l.i × Along (length l.order) l.order (NONE ∷ l.order) l.initial.prev l.prev l.i × (l.before ≡ get_or (NONE ∷ l.order) l.i 0)
-
-abbrev pub decreases-loop-i : goal.decreases-loop-i
-decreases-loop-i l = length l.order - l.i

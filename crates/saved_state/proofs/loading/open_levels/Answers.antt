@@ -1,17 +1,14 @@
 -- `saved_state::loading::open_levels` meets its contract. The loop's invariant: the opened levels before place i stand at the front.
 use mathlib.Core.Path.{◌∙◌}
 use native.Mathlib.Omega.{arith}
-use Rattle.saved_state.specs.Loops.{opened_start, opened_same, opened_next, opened_end}
+use Rattle.saved_state.specs.Loops.{opened_same, opened_next, opened_end}
 use Rattle.saved_state.proofs.loading.open_levels.Goals as goal
-use Rattle.saved_state.proofs.loading.open_levels.Goals.{else-level-levels, then-level-levels}
-
-pub loop-i-init : goal.loop-i-init
-loop-i-init c = opened_start _ _ _ c.fill.ensures c.requires.0
+use Rattle.saved_state.proofs.loading.open_levels.Goals.{else-level-next, then-level-next}
 
 pub loop-i-preserved : goal.loop-i-preserved
 loop-i-preserved c =
     let o = c.loop-i.invariant in
-    elim c.if-level-levels.branch [ then-level-levels w ↦ rw (w.opened-is, w.count-is) (opened_next o (omega arith) w.if-level-levels.true) | else-level-levels w ↦ rw (w.opened-is, w.count-is) (opened_same o (omega arith) w.if-level-levels.false) ]
+    elim c.if-level-next.branch [ then-level-next w ↦ rw (w.opened-is, w.level-is, w.count-is) (opened_next o (omega arith) w.if-level-next.true) | else-level-next w ↦ rw (w.opened-is, w.level-is, w.count-is) (opened_same o (omega arith) w.if-level-next.false) ]
 
 pub returns : goal.returns
-returns c = let e = opened_end c.loop-i.invariant (omega arith) in (e.0 ∙ rw c.fill.auto.s, e.1)
+returns c = let e = opened_end c.loop-i.invariant (omega arith) in (e.0 ∙ rw c.fill.ensures.len, e.1)

@@ -1,4 +1,3 @@
-use Prim.Native.Nat.{◌-◌}
 use lib.ListN.{length}
 use Rattle.laws.specs.InPlace.{up_to}
 use Rattle.saved_state.specs.Loops.{Along}
@@ -6,6 +5,3 @@ use Rattle.saved_state.proofs.loading.positions.Given as goal
 
 abbrev pub invariant-loop-i : goal.invariant-loop-i
 invariant-loop-i l = Along (length l.members) l.members (up_to (length l.members)) l.initial.indices l.indices l.i
-
-abbrev pub decreases-loop-i : goal.decreases-loop-i
-decreases-loop-i l = length l.members - l.i

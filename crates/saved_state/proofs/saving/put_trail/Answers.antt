@@ -1,15 +1,14 @@
--- `saved_state::saving::put_trail` meets its contract: each line is written behind the one before.
-use mathlib.Core.Path.{◌∙◌}
+-- `saved_state::saving::put_trail` meets its contract: each line goes behind the one before.
 use mathlib.Core.List.{List, [], ◌∷◌, ◌++◌}
 use Prim.Native.Nat.{ℕ}
 use native.Mathlib.Omega.{arith}
 use Rattle.saved_text.specs.Saved.{whole, reason}
-use Rattle.saved_text.specs.Puts.{Room, row_text}
-use Rattle.saved_text.specs.Written.{puts_more, room_first, room_next}
+use Rattle.saved_text.specs.Puts.{row_text}
 use Rattle.saved_state.specs.Written.{along}
 use Rattle.saved_state.specs.Pieces.{trail_text}
+use Rattle.saved_state.proofs.saving.put_trail.Given as given
 use Rattle.saved_state.proofs.saving.put_trail.Goals as goal
-use Rattle.saved_state.proofs.saving.put_trail.Goals.{After-put_along-end, After-put_along-end-2, After-put_words-end, Start}
+use Rattle.saved_state.proofs.saving.put_trail.Goals.{After-put_along, After-put_along-2, After-row, Start}
 
 -- the lines of codes, levels, reasons and curr_i
 abbrev codes_line : List ℕ → List ℕ
@@ -31,56 +30,50 @@ behind_two codes reasons curr = reasons_line codes reasons ++ curr_line curr
 abbrev behind_one : List ℕ → List ℕ → List ℕ → ℕ → List ℕ
 behind_one codes levels reasons curr = levels_line codes levels ++ behind_two codes reasons curr
 
-room : (c : Start) → let a = c.args in Room a.write a.at (codes_line a.codes.now ++ behind_one a.codes.now a.levels.now a.reasons.now a.curr) a.out.now
+-- the room before the first line, and behind the first, the second and the third
+before_codes : (g : given.Over) (c : Start g) → let a = c.args in g.S.Sink.room a.sink.now (codes_line a.codes.now ++ behind_one a.codes.now a.levels.now a.reasons.now a.curr)
 unfolding trail_text
-room c = c.requires.2
+before_codes g c = c.requires.2
 
--- the room that is left behind the first, the second and the third
-behind_codes : (c : After-put_words-end) → let a = c.args in Room a.write c.put_words-end.result (behind_one a.codes.now a.levels.now a.reasons.now a.curr) c.put_words-end.new.out
+behind_codes : (g : given.Over) (c : After-row g) → let a = c.args in g.S.Sink.room c.row.new.self (behind_one a.codes.now a.levels.now a.reasons.now a.curr)
 unfolding trail_text
-behind_codes c = let a = c.args in room_next (codes_line a.codes.now) (behind_one a.codes.now a.levels.now a.reasons.now a.curr) c.requires.2 c.put_words-end.ensures
+behind_codes g c = let a = c.args in g.met.S.Sink.laws.room_next (codes_line a.codes.now) (behind_one a.codes.now a.levels.now a.reasons.now a.curr) c.requires.2 c.row.ensures
 
-behind_levels : (c : After-put_along-end) → let a = c.args in Room a.write c.put_along-end.result (behind_two a.codes.now a.reasons.now a.curr) c.put_along-end.new.out
+behind_levels : (g : given.Over) (c : After-put_along g) → let a = c.args in g.S.Sink.room c.put_along.new.sink (behind_two a.codes.now a.reasons.now a.curr)
 unfolding trail_text
-behind_levels c =
+behind_levels g c =
     let a = c.args in
-    let one = room_next (codes_line a.codes.now) (behind_one a.codes.now a.levels.now a.reasons.now a.curr) c.requires.2 c.put_words-end.ensures in
-    room_next (levels_line a.codes.now a.levels.now) (behind_two a.codes.now a.reasons.now a.curr) one c.put_along-end.ensures
+    let l = g.met.S.Sink.laws in
+    let one = l.room_next (codes_line a.codes.now) (behind_one a.codes.now a.levels.now a.reasons.now a.curr) c.requires.2 c.row.ensures in
+    l.room_next (levels_line a.codes.now a.levels.now) (behind_two a.codes.now a.reasons.now a.curr) one c.put_along.ensures
 
-behind_reasons : (c : After-put_along-end-2) → let a = c.args in Room a.write c.put_along-end-2.result (curr_line a.curr) c.put_along-end-2.new.out
+behind_reasons : (g : given.Over) (c : After-put_along-2 g) → let a = c.args in g.S.Sink.room c.put_along-2.new.sink (curr_line a.curr)
 unfolding trail_text
-behind_reasons c =
+behind_reasons g c =
     let a = c.args in
-    let one = room_next (codes_line a.codes.now) (behind_one a.codes.now a.levels.now a.reasons.now a.curr) c.requires.2 c.put_words-end.ensures in
-    let two = room_next (levels_line a.codes.now a.levels.now) (behind_two a.codes.now a.reasons.now a.curr) one c.put_along-end.ensures in
-    room_next (reasons_line a.codes.now a.reasons.now) (curr_line a.curr) two c.put_along-end-2.ensures
+    let l = g.met.S.Sink.laws in
+    let one = l.room_next (codes_line a.codes.now) (behind_one a.codes.now a.levels.now a.reasons.now a.curr) c.requires.2 c.row.ensures in
+    let two = l.room_next (levels_line a.codes.now a.levels.now) (behind_two a.codes.now a.reasons.now a.curr) one c.put_along.ensures in
+    l.room_next (reasons_line a.codes.now a.reasons.now) (curr_line a.curr) two c.put_along-2.ensures
 
-pub put_words-end-requires : goal.put_words-end-requires
-put_words-end-requires c =
+pub row-requires : goal.row-requires
+row-requires g c =
     let a = c.args in
-    (c.requires.1.codes_fit, omega (arith, c.requires.1.few), room_first (codes_line a.codes.now) (behind_one a.codes.now a.levels.now a.reasons.now a.curr) (room (goal.at.put_words-end-requires c).Start))
+    (c.requires.1.codes_fit, omega (arith, c.requires.1.few), g.met.S.Sink.laws.room_first (codes_line a.codes.now) (behind_one a.codes.now a.levels.now a.reasons.now a.curr) (before_codes g (goal.at.row-requires g c).Start))
 
-pub put_along-end-requires : goal.put_along-end-requires
-put_along-end-requires c =
+pub put_along-requires-clause-each : goal.put_along-requires-clause-each
+put_along-requires-clause-each g c =
     let a = c.args in
-    let l = c.requires.1 in
-    record {
-      scratch_len = (c.requires.0, omega (arith, l.few), l.in_levels);
-      each = (l.levels_fit, room_first (levels_line a.codes.now a.levels.now) (behind_two a.codes.now a.reasons.now a.curr) (behind_codes (goal.at.put_along-end-requires c).After-put_words-end));
-    }
+    (c.requires.1.levels_fit, g.met.S.Sink.laws.room_first (levels_line a.codes.now a.levels.now) (behind_two a.codes.now a.reasons.now a.curr) (behind_codes g (goal.at.put_along-requires-clause-each g c).After-row))
 
-pub put_along-end-requires-2 : goal.put_along-end-requires-2
-put_along-end-requires-2 c =
+pub put_along-requires-2-clause-each : goal.put_along-requires-2-clause-each
+put_along-requires-2-clause-each g c =
     let a = c.args in
-    let l = c.requires.1 in
-    record {
-      scratch_len = (c.put_along-end.auto.scratch ∙ c.requires.0, omega (arith, l.few), l.in_reasons);
-      each = (l.reasons_fit, room_first (reasons_line a.codes.now a.reasons.now) (curr_line a.curr) (behind_levels (goal.at.put_along-end-requires-2 c).After-put_along-end));
-    }
+    (c.requires.1.reasons_fit, g.met.S.Sink.laws.room_first (reasons_line a.codes.now a.reasons.now) (curr_line a.curr) (behind_levels g (goal.at.put_along-requires-2-clause-each g c).After-put_along))
 
-pub put_words-requires : goal.put_words-requires
-put_words-requires c = ((omega arith, tt), omega arith, behind_reasons (goal.at.put_words-requires c).After-put_along-end-2)
+pub row-requires-2 : goal.row-requires-2
+row-requires-2 g c = ((omega arith, tt), omega arith, behind_reasons g (goal.at.row-requires-2 g c).After-put_along-2)
 
 pub returns : goal.returns
 unfolding trail_text
-returns c = puts_more c.put_words-end.ensures (puts_more c.put_along-end.ensures (puts_more c.put_along-end-2.ensures c.put_words.ensures))
+returns g c = let l = g.met.S.Sink.laws in l.puts_more c.row.ensures (l.puts_more c.put_along.ensures (l.puts_more c.put_along-2.ensures c.row-2.ensures))

@@ -1,4 +1,3 @@
-use Prim.Native.Nat.{◌-◌}
 use lib.ListN.{length}
 use Rattle.saved_state.specs.Written.{along}
 use Rattle.saved_state.specs.Loops.{Front}
@@ -6,6 +5,3 @@ use Rattle.saved_state.proofs.writing.along.Given as goal
 
 abbrev pub invariant-loop-i : goal.invariant-loop-i
 invariant-loop-i l = Front (length l.codes) (along l.codes l.table) l.out l.i
-
-abbrev pub decreases-loop-i : goal.decreases-loop-i
-decreases-loop-i l = length l.codes - l.i

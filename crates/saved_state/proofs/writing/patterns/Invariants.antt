@@ -1,4 +1,3 @@
-use Prim.Native.Nat.{◌-◌}
 use mathlib.Core.List.{map}
 use lib.ListN.{length}
 use lib.Ieee.{binary64, to_bits}
@@ -7,6 +6,3 @@ use Rattle.saved_state.proofs.writing.patterns.Given as goal
 
 abbrev pub invariant-loop-i : goal.invariant-loop-i
 invariant-loop-i l = Front (length l.activity) (map (to_bits binary64) l.activity) l.out l.i
-
-abbrev pub decreases-loop-i : goal.decreases-loop-i
-decreases-loop-i l = length l.activity - l.i

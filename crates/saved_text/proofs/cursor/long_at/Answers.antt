@@ -5,6 +5,3 @@ use Rattle.saved_text.proofs.cursor.long_at.Goals as goal
 
 pub returns-in-Number : goal.returns-in-Number
 returns-in-Number c = rw (c.in-Number.is, c.digits_at.ensures) (digits_field _ _ _ (omega arith))
-
-pub returns-in-Bits : goal.returns-in-Bits
-returns-in-Bits c = rw c.in-Bits.is c.bits_at.ensures

@@ -10,4 +10,4 @@ pub returns-then-text-at-eq-DASH : goal.returns-then-text-at-eq-DASH
 returns-then-text-at-eq-DASH c = dash_field _ _ c.if-at-text.true c.if-text-at-eq-DASH.true
 
 pub returns : goal.returns
-returns c = reason_field c.args.text.now c.args.at (λ h e. elim c.else-at-text.branch [ else-at-text-via-then-at-text+else-text-at-eq-DASH w ↦ w.if-text-at-eq-DASH.false e | else-at-text-via-else-at-text w ↦ omega (arith, w.if-at-text.false) ]) (rw c.small_digits_at.ensures (digits_field _ _ (NONE - 1) (omega arith)))
+returns c = reason_field c.args.text.now c.args.at (λ h e. elim c.else-at-text.branch [ else-at-text-via-then-at-text+else-text-at-eq-DASH w ↦ w.if-text-at-eq-DASH.false e | else-at-text-via-else-at-text w ↦ omega (arith, w.if-at-text.false) ]) (rw c.digits_at.ensures (digits_field _ _ (NONE - 1) (omega arith)))

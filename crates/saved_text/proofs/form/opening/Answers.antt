@@ -24,14 +24,8 @@ slice_bounds-read_first-end c = sym (length-take-le _ _ (omega (arith, found (go
 pub overflow_add-result : goal.overflow_add-result
 overflow_add-result c = omega (arith, found (goal.at.overflow_add-result c).Else-end-text, c.well_formed)
 
-pub overflow_add-result-in-List : goal.overflow_add-result-in-List
-overflow_add-result-in-List c = omega (arith, found (goal.at.overflow_add-result-in-List c).Else-end-text, c.well_formed)
+pub returns-in_err-first : goal.returns-in_err-first
+returns-in_err-first c = rw c.from_residual.ensures (opening_bad _ _ c.find-end.ensures (λ o h e. never (sym (first_told _ ∙ ap opened_by (sym c.read_first.ensures ∙ c.in_err-first.was)) ∙ e)))
 
-pub returns-in-Heap : goal.returns-in-Heap
-returns-in-Heap c = record { end = _; is_end = c.find-end.ensures; place = refl; found = found (goal.at.returns-in-Heap c).Else-end-text; line = first_told _ ∙ ap opened_by (sym c.read_first.ensures ∙ c.in-Heap.is) }
-
-pub returns-in-List : goal.returns-in-List
-returns-in-List c = record { end = _; is_end = c.find-end.ensures; place = refl; found = found (goal.at.returns-in-List c).Else-end-text; line = first_told _ ∙ ap opened_by (sym c.read_first.ensures ∙ c.in-List.is) }
-
-pub returns-in-Bad : goal.returns-in-Bad
-returns-in-Bad c = opening_bad _ _ c.find-end.ensures (λ o h e. never (sym (first_told _ ∙ ap opened_by (sym c.read_first.ensures ∙ c.in-Bad.is)) ∙ e))
+pub returns : goal.returns
+returns c = record { end = _; is_end = c.find-end.ensures; place = refl; found = found (goal.at.returns c).Else-end-text; line = first_told _ ∙ ap opened_by (sym c.read_first.ensures ∙ c.in_ok-first.was) }

@@ -3,17 +3,11 @@ use Rattle.saved_text.specs.FormLaws.{past_then, past_bad}
 use mathlib.Core.Path.{refl}
 use Rattle.saved_text.proofs.form.past_heap.Goals as goal
 
-pub returns-in_default : goal.returns-in_default
-returns-in_default c = past_bad _ _ (rw c.in_default.is at c.past_longs.ensures)
+pub returns-in_err-activities : goal.returns-in_err-activities
+returns-in_err-activities c = rw c.from_residual.ensures (past_bad _ _ (rw c.in_err-activities.was at c.past_row.ensures))
 
-pub past_words-requires : goal.past_words-requires
-past_words-requires c = (c.past_longs.ensures.sound _ c.in-Is.is).1.within
-
-pub returns-in_default-past_words : goal.returns-in_default-past_words
-returns-in_default-past_words c = past_then refl (rw c.in-Is.is at c.past_longs.ensures) (past_bad _ _ (rw c.in_default-past_words.is at c.past_words.ensures))
-
-pub past_longs-requires-2 : goal.past_longs-requires-2
-past_longs-requires-2 c = (c.past_words.ensures.sound _ c.in-Is-past_words.is).1.within
+pub returns-in_err-switches : goal.returns-in_err-switches
+returns-in_err-switches c = rw c.from_residual-in_err-switches.ensures (past_then refl (rw c.in_ok-activities.was at c.past_row.ensures) (past_bad _ _ (rw c.in_err-switches.was at c.past_row-2.ensures)))
 
 pub returns : goal.returns
-returns c = past_then refl (rw c.in-Is.is at c.past_longs.ensures) (past_then refl (rw c.in-Is-past_words.is at c.past_words.ensures) c.past_longs-2.ensures)
+returns c = past_then refl (rw c.in_ok-activities.was at c.past_row.ensures) (past_then refl (rw c.in_ok-switches.was at c.past_row-2.ensures) c.past_row-3.ensures)

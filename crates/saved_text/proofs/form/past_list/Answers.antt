@@ -3,17 +3,11 @@ use Rattle.saved_text.specs.FormLaws.{past_then, past_bad}
 use mathlib.Core.Path.{refl}
 use Rattle.saved_text.proofs.form.past_list.Goals as goal
 
-pub returns-in_default : goal.returns-in_default
-returns-in_default c = past_bad _ _ (rw c.in_default.is at c.past_longs.ensures)
+pub returns-in_err-stamps : goal.returns-in_err-stamps
+returns-in_err-stamps c = rw c.from_residual.ensures (past_bad _ _ (rw c.in_err-stamps.was at c.past_row.ensures))
 
-pub past_longs-requires-2 : goal.past_longs-requires-2
-past_longs-requires-2 c = (c.past_longs.ensures.sound _ c.in-Is.is).1.within
-
-pub returns-in_default-past_longs : goal.returns-in_default-past_longs
-returns-in_default-past_longs c = past_then refl (rw c.in-Is.is at c.past_longs.ensures) (past_bad _ _ (rw c.in_default-past_longs.is at c.past_longs-2.ensures))
-
-pub past_words-requires : goal.past_words-requires
-past_words-requires c = (c.past_longs-2.ensures.sound _ c.in-Is-past_longs.is).1.within
+pub returns-in_err-behind : goal.returns-in_err-behind
+returns-in_err-behind c = rw c.from_residual-in_err-behind.ensures (past_then refl (rw c.in_ok-stamps.was at c.past_row.ensures) (past_bad _ _ (rw c.in_err-behind.was at c.past_row-2.ensures)))
 
 pub returns : goal.returns
-returns c = past_then refl (rw c.in-Is.is at c.past_longs.ensures) (past_then refl (rw c.in-Is-past_longs.is at c.past_longs-2.ensures) c.past_words.ensures)
+returns c = past_then refl (rw c.in_ok-stamps.was at c.past_row.ensures) (past_then refl (rw c.in_ok-behind.was at c.past_row-2.ensures) c.past_row-3.ensures)

@@ -1,25 +1,18 @@
 -- `saved_text::form::past_state` meets its contract: the trail's lines, and then the chooser's.
 use Rattle.saved_text.specs.FormLaws.{state_bad, state_past, head_past}
-use mathlib.Core.Path.{refl}
 use Rattle.saved_text.proofs.form.past_state.Goals as goal
 
-pub returns-in_default : goal.returns-in_default
-returns-in_default c = state_bad _ (rw c.in_default.is at c.trail_rows.ensures)
+pub returns-in_err-trail : goal.returns-in_err-trail
+returns-in_err-trail c = rw c.from_residual.ensures (state_bad _ (rw c.in_err-trail.was at c.trail_rows.ensures))
 
-pub list_rows-requires : goal.list_rows-requires
-list_rows-requires c = ((rw c.in-Are.is at c.trail_rows.ensures).sound _ refl).4.within
+pub returns-in_err-heap-in-Heap : goal.returns-in_err-heap-in-Heap
+returns-in_err-heap-in-Heap c = rw (c.from_residual-in_err-heap-in-Heap.ensures, c.in-Heap.is) (state_past _ (rw c.in_ok-trail.was at c.trail_rows.ensures) (head_past (rw c.in_err-heap-in-Heap.was at c.heap_rows.ensures)))
 
-pub returns-in_default-list_rows : goal.returns-in_default-list_rows
-returns-in_default-list_rows c = rw c.if-list.true (state_past _ (rw c.in-Are.is at c.trail_rows.ensures) (head_past (rw c.in_default-list_rows.is at c.list_rows.ensures)))
+pub returns-in_err-list-in-List : goal.returns-in_err-list-in-List
+returns-in_err-list-in-List c = rw (c.from_residual-in_err-list-in-List.ensures, c.in-List.is) (state_past _ (rw c.in_ok-trail.was at c.trail_rows.ensures) (head_past (rw c.in_err-list-in-List.was at c.list_rows.ensures)))
 
-pub returns-then-list : goal.returns-then-list
-returns-then-list c = rw c.if-list.true (state_past _ (rw c.in-Are.is at c.trail_rows.ensures) (head_past (rw c.in-Are-list_rows.is at c.list_rows.ensures)))
+pub returns-in_ok-heap-in-Heap : goal.returns-in_ok-heap-in-Heap
+returns-in_ok-heap-in-Heap c = rw c.in-Heap.is (state_past _ (rw c.in_ok-trail.was at c.trail_rows.ensures) (head_past (rw c.in_ok-heap-in-Heap.was at c.heap_rows.ensures)))
 
-pub heap_rows-requires : goal.heap_rows-requires
-heap_rows-requires c = ((rw c.in-Are.is at c.trail_rows.ensures).sound _ refl).4.within
-
-pub returns-in_default-heap_rows : goal.returns-in_default-heap_rows
-returns-in_default-heap_rows c = rw c.if-list.false (state_past _ (rw c.in-Are.is at c.trail_rows.ensures) (head_past (rw c.in_default-heap_rows.is at c.heap_rows.ensures)))
-
-pub returns : goal.returns
-returns c = rw c.if-list.false (state_past _ (rw c.in-Are.is at c.trail_rows.ensures) (head_past (rw c.in-Are-heap_rows.is at c.heap_rows.ensures)))
+pub returns-in_ok-list-in-List : goal.returns-in_ok-list-in-List
+returns-in_ok-list-in-List c = rw c.in-List.is (state_past _ (rw c.in_ok-trail.was at c.trail_rows.ensures) (head_past (rw c.in_ok-list-in-List.was at c.list_rows.ensures)))

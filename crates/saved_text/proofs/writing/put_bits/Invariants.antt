@@ -1,4 +1,4 @@
-use Prim.Native.Nat.{◌≤◌}
+use Prim.Native.Nat.{◌-◌}
 use mathlib.Core.Path.{◌≡◌}
 use lib.ListN.{length}
 use Rattle.forms.specs.Text.{written}
@@ -6,7 +6,4 @@ use Rattle.forms.specs.Spelling.{hex}
 use Rattle.saved_text.proofs.writing.put_bits.Given as goal
 
 abbrev pub invariant-loop-i : goal.invariant-loop-i
-invariant-loop-i l = (l.i ≤ 16) × ((length l.out ≡ length l.initial.out) × (written l.at (hex l.i l.left) l.out ≡ written l.at (hex 16 l.v) l.initial.out))
-
-abbrev pub decreases-loop-i : goal.decreases-loop-i
-decreases-loop-i l = l.i
+invariant-loop-i l = (length l.out ≡ length l.initial.out) × (written l.at (hex (16 - l.i) l.left) l.out ≡ written l.at (hex 16 l.v) l.initial.out)

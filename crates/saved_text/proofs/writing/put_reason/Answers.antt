@@ -10,19 +10,19 @@ use Rattle.saved_text.proofs.writing.put_reason.Goals as goal
 
 pub bounds-out-at : goal.bounds-out-at
 unfolding reason_text
-bounds-out-at c = let room = rw (eq-eqb _ _ c.if-v.true) at c.requires.1 in omega arith
+bounds-out-at c = let room = rw (eq-eqb _ _ c.if-v-eq-NONE.true) at c.requires in omega arith
 
-pub returns-then-v : goal.returns-then-v
+pub returns-then-v-eq-NONE : goal.returns-then-v-eq-NONE
 unfolding reason_text written
-returns-then-v c = rw (eq-eqb _ _ c.if-v.true) (record { buffer = refl; place = refl })
+returns-then-v-eq-NONE c = rw (eq-eqb _ _ c.if-v-eq-NONE.true) (record { buffer = refl; place = refl })
 
 pub put_number-requires : goal.put_number-requires
 unfolding reason_text
 put_number-requires c =
-    let room = rw (ne_eqb _ _ c.if-v.false) at c.requires.1 in
-    omega (arith, ap length (whole_digits c.args.v c.requires.0))
+    let room = rw (ne_eqb _ _ c.if-v-eq-NONE.false) at c.requires in
+    omega (arith, ap length (whole_digits c.args.v (omega arith)))
 
 pub returns : goal.returns
 unfolding reason_text
 returns c =
-    rw (ne_eqb _ _ c.if-v.false, ← whole_digits c.args.v c.requires.0) c.put_number.ensures
+    rw (ne_eqb _ _ c.if-v-eq-NONE.false, ← whole_digits c.args.v (omega arith)) c.put_number.ensures

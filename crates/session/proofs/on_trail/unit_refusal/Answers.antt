@@ -1,8 +1,5 @@
 -- `session::on_trail::unit_refusal` meets its contract: the variables assigned at level 0 are those that stay assigned when the trail goes back.
-use Prim.Native.Nat.{◌<◌}
-use mathlib.Core.Path.{sym, ◌∙◌}
-use native.Mathlib.Omega.{arith}
-use borrow.Author.Tests.{lt-ltb, le-ltb}
+use Rattle.std.proofs.Common.{◌<◌, ◌∙◌, sym, arith, lt-ltb}
 use Rattle.lit.specs.Lits.{index}
 use Rattle.trail.specs.Unit.{stays_assigned}
 use Rattle.book.specs.Session.{need}
@@ -10,18 +7,18 @@ use Rattle.session.specs.OnTrail.{learn_unit_on}
 use Rattle.session.proofs.on_trail.unit_refusal.Goals as goal
 use Rattle.session.proofs.on_trail.unit_refusal.Goals.{Else-index-n}
 
-pub returns-then-index-n : goal.returns-then-index-n
-unfolding learn_unit_on need
-returns-then-index-n c = λ m reasons trail opened s g. let a = c.args in rw (le-ltb (index a.code) a.n (omega (arith, c.if-index-n.true, c.index.ensures)))
-
 -- the variable is one of n
 within : (c : Else-index-n) → let a = c.args in index a.code < a.n
 within c = omega (arith, c.if-index-n.false, c.index.ensures)
 
 pub returns-then-at_level_zero : goal.returns-then-at_level_zero
 unfolding learn_unit_on need
-returns-then-at_level_zero c = λ m reasons trail opened s g. rw (lt-ltb _ _ (within (goal.at.returns-then-at_level_zero c).Else-index-n), stays_assigned g _ (within (goal.at.returns-then-at_level_zero c).Else-index-n) ∙ sym c.at_level_zero.ensures ∙ c.if-at_level_zero.true)
+returns-then-at_level_zero c m g =
+    let h = within (goal.at.returns-then-at_level_zero c).Else-index-n in
+    rw (lt-ltb _ _ h, stays_assigned g _ h ∙ sym c.at_level_zero.ensures ∙ c.if-at_level_zero.true)
 
 pub returns : goal.returns
 unfolding learn_unit_on need
-returns c = λ m reasons trail opened s g. rw (lt-ltb _ _ (within (goal.at.returns c).Else-index-n), stays_assigned g _ (within (goal.at.returns c).Else-index-n) ∙ sym c.at_level_zero.ensures ∙ c.if-at_level_zero.false)
+returns c m g =
+    let h = within (goal.at.returns c).Else-index-n in
+    rw (lt-ltb _ _ h, stays_assigned g _ h ∙ sym c.at_level_zero.ensures ∙ c.if-at_level_zero.false)

@@ -1,48 +1,23 @@
 -- `sheet::clauses::clause_step` meets its contract: the line's turn is the clause's, and the run goes on behind the line.
-use Prim.Native.Nat.{ℕ, ◌+◌}
-use mathlib.Core.Path.{◌≡◌, ap, ◌∙◌}
 use native.Mathlib.Omega.{arith}
-use Rattle.sheet.specs.Running.{line_length, after}
-use Rattle.sheet.proofs.Steps.{line_length_lem, line_part, line_inside}
-use Rattle.sheet.proofs.ClauseLines.{same_line}
-use Rattle.sheet.proofs.Section.{clause_more, clause_taken, answer_fits, so_far_one}
+use Rattle.sheet.proofs.Steps.{line_inside}
+use Rattle.sheet.proofs.Section.{unreplied, clause_more, answer_fits, so_far_one}
 use Rattle.sheet.proofs.clauses.clause_step.Goals as goal
-
-pub overflow_add-end : goal.overflow_add-end
-overflow_add-end c =
-    let g = c.requires.0 in
-    omega (arith, line_length_lem c.args.sheet.now c.args.s.place.from c.find.ensures, g.room.short, line_inside g.room (clause_more g c.requires.1))
-
-pub slice_bounds-clause_line-end : goal.slice_bounds-clause_line-end
-slice_bounds-clause_line-end c =
-    let g = c.requires.0 in
-    omega (arith, line_length_lem c.args.sheet.now c.args.s.place.from c.find.ensures, line_inside g.room (clause_more g c.requires.1))
-
-pub clause_line-a-requires : goal.clause_line-a-requires
-clause_line-a-requires c =
-    let e = line_length_lem c.args.sheet.now c.args.s.place.from c.find.ensures in
-    (c.requires.0.slices, (λ k short. clause_taken c.requires.0 c.requires.1 k (rw (line_part c.args.sheet.now c.args.s.place.from e) at short)))
 
 pub answer-at-requires : goal.answer-at-requires
 answer-at-requires c =
-    let l = c.clause_line-a in
-    let e = line_length_lem c.args.sheet.now c.args.s.place.from c.find.ensures in
-    answer_fits c.requires.0 c.requires.1 (same_line (line_part c.args.sheet.now c.args.s.place.from e) l.ensures)
+    rw (c.and.ensures, unreplied c.read_clause-end.result.1 c.args.s.place.line) (answer_fits c.requires.0 c.requires.1 c.read_clause-end.ensures.added)
 
-pub behind-q-requires : goal.behind-q-requires
-behind-q-requires c =
+pub behind-place-requires : goal.behind-place-requires
+behind-place-requires c =
     let g = c.requires.0 in
     let more = clause_more g c.requires.1 in
-    let e = line_length_lem c.args.sheet.now c.args.s.place.from c.find.ensures in
-    (more, omega (arith, g.room.numbered), omega (arith, e, g.room.short, line_inside g.room more))
+    (more, omega (arith, g.room.numbered), omega (arith, c.read_clause-end.ensures.end, g.room.short, line_inside g.room more))
 
 pub returns : goal.returns
 returns c =
-    let p = c.args.s.place in
-    let l = c.clause_line-a in
-    let a = c.answer-at in
-    let e : c.find.result ≡ line_length c.args.sheet.now p.from = line_length_lem c.args.sheet.now p.from c.find.ensures in
-    let q : c.behind-q.result ≡ after p (p.from + line_length c.args.sheet.now p.from) a.result = c.behind-q.ensures ∙ ap (λ (k : ℕ). after p (p.from + k) a.result) e in
-    let added = same_line (line_part c.args.sheet.now p.from e) l.ensures in
+    let l = c.read_clause-end in
     let more = clause_more c.requires.0 c.requires.1 in
-    rw q (record { left_lt_left = omega (arith, more); so_far = so_far_one c.requires.0 c.requires.1 added l.auto.lits l.auto.ends a.ensures })
+    let answered = rw (c.and.ensures, unreplied l.result.1 c.args.s.place.line) at c.answer-at.ensures in
+    rw (c.behind-place.ensures, l.ensures.end, c.unwrap_or.ensures)
+    (record { left_lt_left = omega (arith, more); so_far = so_far_one c.requires.0 c.requires.1 l.ensures.added l.auto.lits l.auto.ends answered })

@@ -9,10 +9,10 @@ use Rattle.vmtf.specs.Laws.{order_from}
 use Rattle.move_to_front.proofs.creation.order.lit_order.Goals as goal
 
 pub count_lits-requires : goal.count_lits-requires
-count_lits-requires c = let f = c.fill.auto.s in record { literals = rw f c.requires.literals; counts_value = c.fill.ensures ∙ ap (λ k. replicate k 0) (sym f) }
+count_lits-requires c = let f = c.fill.ensures in record { literals = rw f.len c.requires.literals; counts_value = f.after (λ y e. e) ∙ ap (λ k. replicate k 0) (sym f.len) }
 
 pub returns : goal.returns
 returns c =
-    let counted = c.count_lits.ensures ∙ ap (λ (l : List ℕ). count_lits l c.args.codes.now) c.fill.ensures in
+    let counted = c.count_lits.ensures ∙ ap (λ (l : List ℕ). count_lits l c.args.codes.now) (c.fill.ensures.after (λ y e. e)) in
     let numbered = c.number.ensures ∙ ap up_to c.requires.counts_len_bound.1 in
     order_from _ _ _ _ _ _ counted numbered c.sort_reverse.ensures

@@ -1,0 +1,12 @@
+-- `heap_desk::loaded::in_own_arrays` meets its contract: the arrays have room.
+use native.Mathlib.Omega.{arith}
+use Rattle.heap_desk.proofs.loaded.in_own_arrays.Goals as goal
+
+pub heap_slices-requires-clause-room : goal.heap_slices-requires-clause-room
+heap_slices-requires-clause-room g c = (
+  c.requires.room.0,
+  c.requires.room.1,
+  c.requires.vars.0,
+  record { codes = λ k few short. omega (arith, c.requires.literals k few short); clauses = λ k few short. omega (arith, c.requires.clauses k few short) },
+  omega (arith, c.requires.sizes.2),
+)

@@ -1,0 +1,2 @@
+-- The lines of a session.
+pub mod Lines
