@@ -1,9 +1,9 @@
 -- Digits that are read one by one: what is left of them still decides, read behind the number that the others gave.
-use Rattle.std.proofs.Common.{◌≡◌, ℕ, ◌+◌, ◌-◌, ◌*◌, ◌<◌, ◌≤◌, leb, List, [], ◌∷◌, length, get_or, drop, sym, refl, ap, ◌∙◌, arith, length-take-le, get_or-drop, get_or-take, leb-true, Option, Some, None}
+use Rattle.std.proofs.Common.{◌≡◌, ℕ, ◌+◌, ◌-◌, ◌*◌, ◌<◌, ◌≤◌, leb, List, [], ◌∷◌, length, get_or, drop, sym, refl, ap, ◌∙◌, arith, length-take-le, get_or-drop, get_or-take, leb-true, true, Option, Some, None}
 use mathlib.Core.Option.{some}
 use Rattle.laws.specs.Tests.{and_left, and_right}
 use Rattle.forms.specs.Letters.{digit_zero, digit_nine}
-use Rattle.forms.specs.Text.{number_up_to}
+use Rattle.forms.specs.Text.{is_digit, number_up_to}
 use Rattle.forms.specs.Reading.{number_from, digit_of, digit_run, run, digit_told, digit_untold, run_next, run_digit, run_here, run_none, run_length, digits_none, number_next, number_over, number_end, number_starts, number_empty, number_zero}
 use Rattle.forms.specs.TextRead.{field_of}
 use Rattle.forms.specs.declared.text.Field.{Field}
@@ -71,3 +71,20 @@ module _ (bytes : List ℕ) (i : ℕ) where
 
   pub no_byte : length bytes ≤ i → digit_run (drop i bytes) ≡ 0
   no_byte h = run_none bytes i h
+
+-- a zero leads a digit, or is alone
+module _ (bytes : List ℕ) (at : ℕ) (z : get_or bytes at 0 ≡ digit_zero) where
+  pub leads_one : (d : ℕ) → at + 1 < length bytes → Some d ≡ digit_of (get_or bytes (at + 1) 0) → 1 < digit_run (drop at bytes)
+  leads_one d h q =
+      let first : is_digit (get_or bytes at 0) ≡ true = rw z refl in
+      omega (arith, run_next bytes at (omega (arith, h)) first, run_next bytes (at + 1) h (digit_told (get_or bytes (at + 1) 0) q).0)
+
+  pub leads_none : at + 1 < length bytes → None ≡ digit_of (get_or bytes (at + 1) 0) → digit_run (drop at bytes) ≤ 1
+  leads_none h n =
+      let first : is_digit (get_or bytes at 0) ≡ true = rw z refl in
+      omega (arith, run_next bytes at (omega (arith, h)) first, no_digit bytes (at + 1) h n)
+
+  pub leads_end : length bytes ≤ at + 1 → at < length bytes → digit_run (drop at bytes) ≤ 1
+  leads_end h l =
+      let first : is_digit (get_or bytes at 0) ≡ true = rw z refl in
+      omega (arith, run_next bytes at l first, no_byte bytes (at + 1) h)

@@ -1,5 +1,5 @@
 // The text of a call sheet: places of bytes, whole numbers, bit patterns, and the digits of answers.
-ghost use Rattle.std.specs.Prelude.{◌≡◌, ◌+◌, ◌-◌, ◌<◌, ◌≤◌, Some, None, [], ◌∷◌, length, take, drop, if◌then◌else◌, from_bits};
+ghost use Rattle.std.specs.Prelude.{◌≡◌, true, false, get_or, ◌+◌, ◌-◌, ◌<◌, ◌≤◌, Some, None, [], ◌∷◌, length, take, drop, if◌then◌else◌, from_bits};
 ghost use Rattle.std.specs.Float.{binary64};
 ghost use Rattle.forms.specs.Letters.{digit_zero};
 ghost use Rattle.forms.specs.Text as spec;
@@ -71,11 +71,31 @@ fn digit(b: u8) -> Option<u8>
     Some(b - b'0')
 }
 
-// The whole number, up to the greatest that may stand there, of the digits from a place on, and the place behind them.
+// Whether a zero from a place on leads a number of two digits or more.
+#[tactic(auto, using(crate::proofs::Digits::leads_one, crate::proofs::Digits::leads_none, crate::proofs::Digits::leads_end))]
+fn zero_leads(bytes: &[u8], at: usize) -> bool
+    requires { at ≤ length bytes.now }
+    ensures leads { result ≡ true → (get_or bytes.now at 0 ≡ digit_zero) × (1 < digit_run (drop at bytes.now)) }
+    ensures alone { result ≡ false → get_or bytes.now at 0 ≡ digit_zero → digit_run (drop at bytes.now) ≤ 1 }
+{
+    if at + 1 >= bytes.len() || bytes[at] != b'0' {
+        return false;
+    }
+    match digit(bytes[at + 1]) {
+        Some(_) => true,
+        None => false,
+    }
+}
+
+// The whole number, up to the greatest that may stand there, of the digits from a place on, and the place behind them. A zero that leads is seen before the
+// digits are gone through.
 pub fn digits_at(bytes: &[u8], at: usize, top: u64) -> Option<Field>
     requires { at ≤ length bytes.now }
     ensures { result ≡ field_of (at + digit_run (drop at bytes.now)) (spec.number_up_to top (run (drop at bytes.now))) }
 {
+    if zero_leads(bytes, at) {
+        return None;
+    }
     let tenth = top / 10;
     let mut value: u64 = 0;
     let mut end = at;
@@ -91,9 +111,6 @@ pub fn digits_at(bytes: &[u8], at: usize, top: u64) -> Option<Field>
         end += 1;
     }
     if end == at || value > top {
-        return None;
-    }
-    if bytes[at] == b'0' && end > at + 1 {
         return None;
     }
     Some(Field { value, end })

@@ -53,7 +53,9 @@ pub fn decide(t: &mut Trail<'_>, h: &mut Vsids<'_>, p: u32) -> Result<Option<u32
     }
 }
 
-// Goes back to a level if it is below the present one; the variables that become unassigned are offered to the heap.
+// Goes back to a level if it is below the present one; the variables that become unassigned are offered to the heap. Taken into its callers, or else each call of
+// a session would set up a trail and a heap in memory for it.
+#[inline(always)]
 fn went_back(t: &mut Trail<'_>, h: &mut Vsids<'_>, level: u32)
     requires { Steady (length t.old.values.now) (trail_in t.old) (vsids_in h.old) }
     ensures went_back { (n m : ℕ) (lits ends : List ℕ) →

@@ -3,7 +3,7 @@ use Rattle.std.proofs.Common.{◌≡◌, ◌+◌, ◌*◌, ◌/◌, ◌<◌, ◌
 use Rattle.forms.specs.Reading.{digit_run}
 use Rattle.forms.proofs.Digits.{Left, start, more, nothing, leading, too_great, the_number, no_digit, no_byte}
 use Rattle.forms.proofs.text.digits_at.Goals as goal
-use Rattle.forms.proofs.text.digits_at.Goals.{In-Some, Left-loop-end, else-loop-end-test, then-loop-end-test+in_default, then-end-at-via-then-end-at, then-end-at-via-else-end-at+then-value-top, else-bytes-at-eq48-via-then-bytes-at-eq48+else-end-at-2, else-bytes-at-eq48-via-else-bytes-at-eq48}
+use Rattle.forms.proofs.text.digits_at.Goals.{In-Some, Left-loop-end, else-loop-end-test, then-loop-end-test+in_default, then-end-at-via-then-end-at, then-end-at-via-else-end-at+then-value-top}
 
 pub loop-end-init : goal.loop-end-init
 loop-end-init c = start c.args.bytes.now c.args.at c.args.top c.requires
@@ -47,17 +47,15 @@ returns-then-end-at c =
       | then-end-at-via-else-end-at+then-value-top w ↦ too_great _ _ _ _ _ c.loop-end.invariant w.if-value-top.true
     ]
 
-pub returns-then-end-at-2 : goal.returns-then-end-at-2
-returns-then-end-at-2 c =
+pub returns-then-zero_leads : goal.returns-then-zero_leads
+returns-then-zero_leads c =
     let a = c.args in
-    leading a.bytes.now a.at a.top c.if-bytes-at-eq48.true (omega (arith, c.loop-end.invariant.ends, c.if-end-at-2.true))
+    let e = c.zero_leads.ensures.leads c.if-zero_leads.true in
+    leading a.bytes.now a.at a.top e.0 e.1
 
 pub returns : goal.returns
 returns c =
     let l = c.loop-end in
     let a = c.args in
     the_number a.bytes.now a.at a.top l.value l.end l.invariant (ended (goal.at.returns c).Left-loop-end) (omega (arith, l.invariant.from, c.if-end-at.false)) c.if-value-top.false
-    (λ z. elim c.else-bytes-at-eq48.branch [
-      | else-bytes-at-eq48-via-then-bytes-at-eq48+else-end-at-2 w ↦ omega (arith, l.invariant.from, c.if-end-at.false, w.if-end-at-2.false)
-      | else-bytes-at-eq48-via-else-bytes-at-eq48 w ↦ absurd (w.if-bytes-at-eq48.false z)
-    ])
+    (λ z. omega (arith, l.invariant.ends, l.invariant.from, c.if-end-at.false, c.zero_leads.ensures.alone c.if-zero_leads.false z))
