@@ -1,11 +1,12 @@
 // The trail of trail.rs: steps, going back. Over lent slices of length N: for each variable its value, level and reason; the literals on the
 // trail; and for each opened level the trail's length before its decision. Unused places hold NONE.
+// A slice that a function over slices leaves alone is passed as `&`, so that its contract names the whole trail. The method of the same name hands the trail over.
 #![tactic(auto)]
 
 ghost use Rattle.std.specs.Prelude.{◌≡◌, ◌<◌, length};
 ghost use Rattle.lit.specs.Lits as lits;
 ghost use Rattle.trail.specs.Trail as spec;
-ghost use Rattle.trail.specs.Memory.{trail_in, view_in, SameSlices, Sized, RoomFor};
+ghost use Rattle.trail.specs.Memory.{trail_of, trail_in, view_in, SameSlices, Sized, RoomFor};
 
 use lit::NONE;
 
@@ -72,35 +73,104 @@ impl Trail<'_> {
     }
 
     // Puts a literal on the trail at the present level, with a reason: a clause number or NONE.
+    #[inline(always)]
     pub fn enq_assignment(&mut self, code: u32, reason: u32)
         requires { RoomFor (length self.old.values.now) (lits.index code) (trail_in self.old) }
         ensures enqueued { trail_in self.new ≡ spec.enq_assignment code reason (trail_in self.old) }
         ensures same_slices { SameSlices self.old self.new }
     {
-        let v = lit::index(code) as usize;
-        let place = self.at.len as usize;
-        self.reasons[v] = reason;
-        self.levels[v] = self.at.level;
-        lit::set_assignment(self.values, code);
-        self.codes[place] = code;
-        self.at.len += 1;
+        let at = self.at;
+        let opened = &mut *self.opened;
+        self.at = enq_assignment(
+            self.values,
+            self.levels,
+            self.reasons,
+            self.codes,
+            opened,
+            at,
+            code,
+            reason,
+        );
     }
 
     // Opens a level and puts the literal of a variable with a polarity on the trail as its decision.
+    #[inline(always)]
     pub fn enq_decision(&mut self, v: u32, p: u8)
         requires room_for { RoomFor (length self.old.values.now) v (trail_in self.old) }
         requires level_in_bounds { (self.old.at.level < length self.old.values.now) × (p < 2) }
         ensures decided { trail_in self.new ≡ spec.enq_decision v p (trail_in self.old) }
         ensures same_slices { SameSlices self.old self.new }
     {
-        let i = v as usize;
-        let place = self.at.len as usize;
-        let open = self.at.level as usize;
-        self.opened[open] = self.at.len;
-        self.levels[i] = self.at.level + 1;
-        self.values[i] = p;
-        self.codes[place] = lit::new(v, p);
-        self.at.len += 1;
-        self.at.level += 1;
+        let at = self.at;
+        let reasons = &mut *self.reasons;
+        self.at = enq_decision(
+            self.values,
+            self.levels,
+            reasons,
+            self.codes,
+            self.opened,
+            at,
+            v,
+            p,
+        );
+    }
+}
+
+// Puts a literal on the trail at the present level, with a reason: a clause number or NONE.
+pub fn enq_assignment(
+    values: &mut [u8],
+    levels: &mut [u32],
+    reasons: &mut [u32],
+    trail: &mut [u32],
+    opened: &[u32],
+    s: TrailState,
+    code: u32,
+    reason: u32,
+) -> TrailState
+    requires { RoomFor (length values.old) (lits.index code) (trail_of values.old levels.old reasons.old trail.old opened.now s) }
+    ensures { let before = trail_of values.old levels.old reasons.old trail.old opened.now s
+        in let after = trail_of values.new levels.new reasons.new trail.new opened.now result
+        in after ≡ spec.enq_assignment code reason before }
+{
+    let v = lit::index(code) as usize;
+    let at = s.len as usize;
+    reasons[v] = reason;
+    levels[v] = s.level;
+    lit::set_assignment(values, code);
+    trail[at] = code;
+    TrailState {
+        len: s.len + 1,
+        ..s
+    }
+}
+
+// Opens a level and puts the literal of a variable with a polarity on the trail as its decision.
+pub fn enq_decision(
+    values: &mut [u8],
+    levels: &mut [u32],
+    reasons: &[u32],
+    trail: &mut [u32],
+    opened: &mut [u32],
+    s: TrailState,
+    v: u32,
+    p: u8,
+) -> TrailState
+    requires room_for { RoomFor (length values.old) v (trail_of values.old levels.old reasons.now trail.old opened.old s) }
+    requires level_in_bounds { (s.level < length values.old) × (p < 2) }
+    ensures { let before = trail_of values.old levels.old reasons.now trail.old opened.old s
+        in let after = trail_of values.new levels.new reasons.now trail.new opened.new result
+        in after ≡ spec.enq_decision v p before }
+{
+    let i = v as usize;
+    let at = s.len as usize;
+    let open = s.level as usize;
+    opened[open] = s.len;
+    levels[i] = s.level + 1;
+    values[i] = p;
+    trail[at] = lit::new(v, p);
+    TrailState {
+        len: s.len + 1,
+        level: s.level + 1,
+        ..s
     }
 }
