@@ -2,11 +2,11 @@
 // it and its stamp. Here are what a decide finds in it and its check; `move_to_front` makes it and moves variables in it.
 #![tactic(auto)]
 
-ghost use Rattle.std.specs.Prelude.{◌≡◌, ◌<◌, Err, OnErr, length};
+ghost use Rattle.std.specs.Prelude.{◌≡◌, ◌<◌, List, ℕ, Err, OnErr, length};
 ghost use Rattle.lit.specs.Numbers.{NONE as none};
 ghost use Rattle.lit.specs.declared.Refusal.TheVariants.{PastOpen};
 ghost use Rattle.vmtf.specs.Vmtf as spec;
-ghost use Rattle.vmtf.specs.Vmtf.{vmtf_in, vmtf_seen, SameSlices, Even, Ends, found_of, marked};
+ghost use Rattle.vmtf.specs.Vmtf.{vmtf_of, vmtf_in, vmtf_seen, SameSlices, Even, Ends, found_of, marked};
 
 use lit::{NONE, Refusal, UNASSIGNED};
 
@@ -44,6 +44,23 @@ fn is_open(values: &[u8], v: u32) -> bool
     values[v as usize] >= UNASSIGNED
 }
 
+// The first open variable along the next links from search on.
+fn first_open(next: &[u32], values: &[u8], search: u32) -> Option<u32>
+    requires ends { Ends next.now search }
+    requires values_len { length values.now ≡ length next.now }
+    ensures { result ≡ marked (spec.first_open values.now (spec.from next.now (length next.now) search)) }
+{
+    let mut curr = search;
+    // a while: it goes along the links
+    while curr != NONE {
+        if is_open(values, curr) {
+            return Some(curr);
+        }
+        curr = next[curr as usize];
+    }
+    None
+}
+
 // Whether any variable is open.
 fn any_open(values: &[u8]) -> bool
     ensures { result ≡ spec.any_open values.now (length values.now) }
@@ -56,25 +73,32 @@ fn any_open(values: &[u8]) -> bool
     false
 }
 
-impl VmtfView<'_> {
-    // The first open variable along the next links from search on.
-    fn first_open(self, values: &[u8]) -> Option<u32>
-        requires ends { Ends self.next.now self.at.search }
-        requires values_len { length values.now ≡ length self.next.now }
-        ensures { let l = vmtf_seen self.entry in
-            result ≡ marked (spec.first_open values.now (spec.from l.next (length l.next) l.search)) }
-    {
-        let mut curr = self.at.search;
-        // a while: it goes along the links
-        while curr != NONE {
-            if is_open(values, curr) {
-                return Some(curr);
-            }
-            curr = self.next[curr as usize];
-        }
-        None
+// Takes the first open variable from search on, and leaves search at the one after it; `PastOpen` where there is none, but some
+// variable is open. The second part is the state after it.
+#[inline]
+pub fn get_next(
+    next: &[u32],
+    values: &[u8],
+    s: VmtfState,
+) -> (Result<Option<u32>, Refusal>, VmtfState)
+    requires ends { Ends next.now s.search }
+    requires values_len { length values.now ≡ length next.now }
+    ensures found { (prev ts : List ℕ) → found_of result.0 (vmtf_of next.now prev ts result.1) ≡ spec.get_next values.now (vmtf_of next.now prev ts s) }
+    ensures refused { OnErr result.0 (result.0 ≡ Err PastOpen) }
+    ensures kept { OnErr result.0 (result.1 ≡ s) }
+{
+    if let Some(v) = first_open(next, values, s.search) {
+        let mut past = s;
+        past.search = next[v as usize];
+        return (Ok(Some(v)), past);
     }
+    if any_open(values) {
+        return (Err(Refusal::PastOpen), s);
+    }
+    (Ok(None), s)
+}
 
+impl VmtfView<'_> {
     // Whether curr may come next in the list: a variable with the link back to the one before it and a lower stamp.
     fn stands(self, before: u32, stamp: u64, curr: u32) -> bool
         requires { Even (vmtf_seen self) }
@@ -138,6 +162,7 @@ impl Vmtf<'_> {
 
     // Takes the first open variable from search on, and leaves search at the one after it; `PastOpen` where there is none, but some
     // variable is open.
+    #[inline(always)]
     pub fn get_next(&mut self, values: &[u8]) -> Result<Option<u32>, Refusal>
         requires ends { Ends self.old.next.now self.old.at.search }
         requires values_len { length values.now ≡ length self.old.next.now }
@@ -146,13 +171,8 @@ impl Vmtf<'_> {
         ensures kept { OnErr result (vmtf_in self.new ≡ vmtf_in self.old) }
         ensures same_slices { SameSlices self.old self.new }
     {
-        if let Some(v) = self.view().first_open(values) {
-            self.at.search = self.next[v as usize];
-            return Ok(Some(v));
-        }
-        if any_open(values) {
-            return Err(Refusal::PastOpen);
-        }
-        Ok(None)
+        let (answer, past) = get_next(self.view().next, values, self.at);
+        self.at = past;
+        answer
     }
 }

@@ -1,53 +1,14 @@
--- `Vmtf::get_next`: the first open variable decides which of the definition's cases it is.
-use Prim.Native.Nat.{ℕ}
-use Rattle.std.specs.Prelude.{◌≡◌, ◌≢◌, eqb, length, List, Option, None, Some}
-use Rattle.std.specs.Option.{is_some}
-use Rattle.std.proofs.Math.Bool.{false≢true}
-use mathlib.Core.Path.{sym, ap, ◌∙◌}
-use borrow.Author.Tests.{eq-eqb, ne_eqb, eqb-true, eqb-false}
-use Rattle.laws.specs.Tests.{cond_elim}
-use Rattle.lit.specs.Numbers.{NONE}
-use Rattle.vmtf.specs.Laws.{found}
-use Rattle.vmtf.specs.Vmtf.{Vmtf, vmtf_in, marked, first_open, from, get_next}
+-- `Vmtf::get_next`: the function over slices says it, whatever the other slices hold.
+use Rattle.std.proofs.Common.{◌≡◌, ap}
+use Rattle.std.proofs.lemmas.Result.{on_err_weaker}
+use Rattle.vmtf.specs.Vmtf.{Vmtf, vmtf_of}
 use Rattle.vmtf.proofs.Vmtf.get_next.Goals as goal
-use Rattle.vmtf.proofs.Vmtf.get_next.Goals.{In-Some, In_default}
-
-abbrev or_none : Option ℕ → ℕ
-or_none (Some v) = v
-or_none None = NONE
-
-some_marked : (n v : ℕ) → Some v ≡ marked n → (v ≡ n) × (n ≢ NONE)
-some_marked n v =
-    cond_elim (λ (o : Option ℕ). Some v ≡ o → (v ≡ n) × (n ≢ NONE)) (eqb n NONE)
-    (λ q e. absurd (false≢true (sym (ap is_some e))))
-    (λ q (e : Some v ≡ Some n). (ap or_none e, eqb-false n NONE q))
-
-none_marked : (n : ℕ) → None ≡ marked n → n ≡ NONE
-none_marked n =
-    cond_elim (λ (o : Option ℕ). None ≡ o → n ≡ NONE) (eqb n NONE)
-    (λ q e. eqb-true n NONE q)
-    (λ q e. absurd (false≢true (ap is_some e)))
-
-abbrev first : List ℕ → Vmtf → ℕ
-first values l = first_open values (from l.next (length l.next) l.search)
-
-some : (c : In-Some) → let n = first c.args.values.now (vmtf_in c.args.self.now) in (c.in-Some.v ≡ n) × (n ≢ NONE)
-some c = some_marked _ _ (c.in-Some.ensures ∙ ap (λ l. marked (first c.args.values.now l)) c.view.ensures)
-
-none : (c : In_default) → first c.args.values.now (vmtf_in c.args.self.now) ≡ NONE
-none c = none_marked _ (c.in_default.ensures ∙ ap (λ l. marked (first c.args.values.now l)) c.view.ensures)
-
-pub bounds-self-v : goal.bounds-self-v
-bounds-self-v c = let m = some c in (found c.requires.ends c.args.values.now c.in-Some.v m.0 (λ e. m.1 (sym m.0 ∙ e))).0
-
-pub returns-in-Some-clause-found : goal.returns-in-Some-clause-found
-unfolding get_next
-returns-in-Some-clause-found c = let m = some (goal.at.returns-in-Some-clause-found c).In-Some in rw (ne_eqb _ _ m.1, m.0)
-
-pub returns-then-any_open-clause-found : goal.returns-then-any_open-clause-found
-unfolding get_next
-returns-then-any_open-clause-found c = rw (eq-eqb _ _ (none (goal.at.returns-then-any_open-clause-found c).In_default), sym c.any_open.ensures ∙ c.if-any_open.true)
 
 pub returns-clause-found : goal.returns-clause-found
-unfolding get_next
-returns-clause-found c = rw (eq-eqb _ _ (none (goal.at.returns-clause-found c).In_default), sym c.any_open.ensures ∙ c.if-any_open.false)
+returns-clause-found c = let l = c.args.self.now in rw (ap (λ (l : Vmtf). l.next) c.view.ensures) at (c.get_next-answer.ensures.found l.prev.now l.ts.now)
+
+pub returns-clause-kept : goal.returns-clause-kept
+returns-clause-kept c =
+    let l = c.args.self.now in
+    let r = c.get_next-answer.result in
+    on_err_weaker r.0 (λ (h : r.1 ≡ l.at). ap (vmtf_of l.next.now l.prev.now l.ts.now) h) c.get_next-answer.ensures.kept

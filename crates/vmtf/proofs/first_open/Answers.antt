@@ -5,13 +5,13 @@ use borrow.Author.Tests.{ne_eqb}
 use lib.ListN.{length}
 use Rattle.vmtf.specs.Vmtf.{first_open}
 use Rattle.vmtf.specs.Laws.{ends_in, ends_step, from_none, from_step}
-use Rattle.vmtf.proofs.VmtfView.first_open.Goals as goal
+use Rattle.vmtf.proofs.first_open.Goals as goal
 
 pub is_open-requires : goal.is_open-requires
 is_open-requires c = omega (arith, ends_in c.loop-curr.invariant.0 c.loop-curr-test.true, c.requires.values_len)
 
-pub bounds-self-curr : goal.bounds-self-curr
-bounds-self-curr c = ends_in c.loop-curr.invariant.0 c.loop-curr-test.true
+pub bounds-next-curr : goal.bounds-next-curr
+bounds-next-curr c = ends_in c.loop-curr.invariant.0 c.loop-curr-test.true
 
 pub loop-curr-smaller : goal.loop-curr-smaller
 loop-curr-smaller c = omega (arith, ap length (from_step c.loop-curr.invariant.0 c.loop-curr-test.true))
