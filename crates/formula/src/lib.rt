@@ -52,6 +52,16 @@ fn start(ends: &[u32], i: u32) -> u32
     if i == 0 { 0 } else { ends[(i - 1) as usize] }
 }
 
+// The literals of clause i, lent for as long as the list's literals are; the ends are only looked at.
+pub fn clause<'a>(lits: &'a [u32], ends: &[u32], i: u32) -> &'a [u32]
+    requires { spec.ClauseAt lits.now ends.now i }
+    ensures { result.now ≡ spec.clause lits.now ends.now i }
+{
+    let from = start(ends, i) as usize;
+    let to = ends[i as usize] as usize;
+    &lits[from..to]
+}
+
 // A clause list: the codes of all clauses, one after the other, and where each clause ends.
 #[derive(Clone, Copy)]
 pub struct Clauses<'a> {
@@ -83,12 +93,11 @@ impl<'a> Clauses<'a> {
     }
 
     // The literals of clause i.
+    #[inline(always)]
     pub fn clause(self, i: u32) -> &'a [u32]
         requires { spec.ClauseAt self.lits.now self.ends.now i }
         ensures { result.now ≡ spec.clause self.entry.lits.now self.entry.ends.now i }
     {
-        let from = start(self.ends, i) as usize;
-        let to = self.ends[i as usize] as usize;
-        &self.lits[from..to]
+        clause(self.lits, self.ends, i)
     }
 }
