@@ -176,7 +176,7 @@ fn group_in<const ROOM: usize>(
 }
 
 // The same with as much scratch as the group needs.
-fn group_unaided(n: u32, vmtf: &mut Vmtf<'_>, vars: &[u32]) -> Result<Option<u32>, Refusal>
+pub fn group_unaided(n: u32, vmtf: &mut Vmtf<'_>, vars: &[u32]) -> Result<Option<u32>, Refusal>
     requires in_order { InOrder n (vmtf_in vmtf.old) }
     requires vars_len_bound { length vars.now ≤ number.max_group }
     ensures answered { (m : ℕ) (lits : List ℕ) (t : TrailIs) →
