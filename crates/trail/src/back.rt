@@ -90,6 +90,7 @@ pub fn backtrack_to(
 }
 
 // Goes back to a level if it is below the present one.
+#[inline]
 pub fn backtrack_safe(
     values: &mut [u8],
     levels: &[u32],

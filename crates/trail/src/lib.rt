@@ -117,6 +117,7 @@ impl Trail<'_> {
 }
 
 // Puts a literal on the trail at the present level, with a reason: a clause number or NONE.
+#[inline]
 pub fn enq_assignment(
     values: &mut [u8],
     levels: &mut [u32],
@@ -145,6 +146,7 @@ pub fn enq_assignment(
 }
 
 // Opens a level and puts the literal of a variable with a polarity on the trail as its decision.
+#[inline]
 pub fn enq_decision(
     values: &mut [u8],
     levels: &mut [u32],
