@@ -14,6 +14,10 @@ prevs ns = map (λ (n : Node). n.prev) ns
 abbrev pub tss : List Node → List ℕ
 tss ns = map (λ (n : Node). n.ts) ns
 
+-- what is read where there is no node
+abbrev pub no_node : Node
+no_node = record { next = 0; prev = 0; ts = 0 }
+
 -- three flat lists of one length, and there are nodes enough
 pub record FlatRoom (ns : List Node) (next prev ts : List ℕ) : Type 0 where
   pub enough : length next ≤ length ns

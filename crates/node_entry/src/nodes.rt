@@ -1,6 +1,6 @@
-// The move-to-front list as a lent slice of node records, from decision.rs: the fields of all out into flat slices, and back.
-ghost use Rattle.std.specs.Prelude.{◌≡◌, ◌++◌, length, take, drop};
-ghost use Rattle.node_entry.specs.Nodes.{nexts, prevs, tss, FlatRoom, room_for};
+// The move-to-front list as a lent slice of node records, from decision.rs: a node read and written, and the fields of all out into flat slices, and back.
+ghost use Rattle.std.specs.Prelude.{◌≡◌, ◌<◌, ◌++◌, length, get_or, set, take, drop};
+ghost use Rattle.node_entry.specs.Nodes.{nexts, prevs, tss, no_node, FlatRoom, room_for};
 
 use lit::MAX_VARS;
 
@@ -22,6 +22,24 @@ pub fn room_for(len: usize) -> usize
     len.min(ROOM)
 }
 
+// Reads a node.
+#[inline]
+pub fn node_at(nodes: &[Node], i: usize) -> Node
+    requires { i < length nodes.now }
+    ensures { result ≡ get_or nodes.now i no_node }
+{
+    nodes[i]
+}
+
+// Writes a node; the others stay.
+#[inline]
+pub fn set_node(nodes: &mut [Node], i: usize, n: Node)
+    requires { i < length nodes.old }
+    ensures { nodes.new ≡ set nodes.old i n }
+{
+    nodes[i] = n;
+}
+
 // Reads the fields of the first nodes, each into a slice of its own.
 pub fn gather(nodes: &[Node], next: &mut [u32], prev: &mut [u32], ts: &mut [u64])
     requires { FlatRoom nodes.now next.old prev.old ts.old }
@@ -31,7 +49,7 @@ pub fn gather(nodes: &[Node], next: &mut [u32], prev: &mut [u32], ts: &mut [u64]
 {
     // four slices at one index: zips of four are no plainer
     for i in 0..next.len() {
-        let n = nodes[i];
+        let n = node_at(nodes, i);
         next[i] = n.next;
         prev[i] = n.prev;
         ts[i] = n.ts;
@@ -48,10 +66,11 @@ pub fn scatter(nodes: &mut [Node], next: &[u32], prev: &[u32], ts: &[u64])
 {
     // four slices at one index: zips of four are no plainer
     for i in 0..next.len() {
-        nodes[i] = Node {
+        let n = Node {
             next: next[i],
             prev: prev[i],
             ts: ts[i],
         };
+        set_node(nodes, i, n);
     }
 }
