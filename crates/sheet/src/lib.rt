@@ -61,14 +61,23 @@ fn reply(given: Result<Option<u32>, Refusal>) -> u32
     }
 }
 
+// Writes an answer line from a place on, with the status and the reply as numbers, and gives the place behind it.
+pub fn answer_numbers(out: &mut [u8], at: usize, line: u32, status: u32, reply: u32) -> usize
+    requires { at + length (answer_line line status (reply_of reply)) ≤ length out.old }
+    ensures { Wrote at (answer_line line status (reply_of reply)) out.old out.new result }
+{
+    let a = put_field(out, at, line);
+    let b = put_field(out, a, status);
+    put_ending(out, b, reply)
+}
+
 // Writes the answer to a line from a place on, and gives the place behind it.
+#[inline]
 pub fn answer(out: &mut [u8], at: usize, line: u32, given: Result<Option<u32>, Refusal>) -> usize
     requires { at + length (answer_line line (status_of given) (replied given)) ≤ length out.old }
     ensures { Wrote at (answer_line line (status_of given) (replied given)) out.old out.new result }
 {
-    let a = put_field(out, at, line);
-    let b = put_field(out, a, status(given));
-    put_ending(out, b, reply(given))
+    answer_numbers(out, at, line, status(given), reply(given))
 }
 
 // Where a run stands: the place in the sheet, how many lines are left, the number of the next, and the place in the answer buffer.
