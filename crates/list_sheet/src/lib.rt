@@ -18,6 +18,9 @@ use list_session::{ListSession, ListState};
 use lit::{MAX_VARS, NONE, UNASSIGNED};
 use sheet::Place;
 
+pub mod line;
+pub mod run;
+
 // Makes a fresh session in slices of length n, over clauses with these literals. The levels and the reasons serve as scratch.
 pub fn start<'a>(
     n: u32,

@@ -1,0 +1,2 @@
+-- The lines of a session in list mode.
+pub mod AnyLiterals
