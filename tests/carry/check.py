@@ -345,7 +345,7 @@ def unwritable():
 
 
 def full():
-    """A disk that is full for the text, or for the answers; an input that cannot be read."""
+    """A disk that is full for the text, or for the answers; an input that cannot be read; no memory for the buffers."""
     def small():
         signal.signal(signal.SIGXFSZ, signal.SIG_IGN)
         resource.setrlimit(resource.RLIMIT_FSIZE, (50, 50))
@@ -368,9 +368,9 @@ def full():
     os.close(folder)
     expect(goes(["on", FILE], b"g\t1\n", preexec_fn=lambda: os.close(2)), b"1\t0\t0\n", "without standard error a sheet is answered otherwise")
     bare = dict(preexec_fn=lambda: resource.setrlimit(resource.RLIMIT_DATA, (2**19, 2**19)))
-    expect(goes(["on", FILE], b"g\t0\n", **bare), b"1\t0\t-\n", "with little memory a sheet is answered otherwise")
+    fails(["on", FILE], f"carry: {FILE}: not saved: out of memory", b"g\t1\n", **bare)
     gone()
-    expect(goes(["new", FILE], sheet, **bare), answers, "with little memory a sheet is answered otherwise")
+    fails(["new", FILE], f"carry: {FILE}: not saved: out of memory", sheet, **bare)
 
 
 def unread():

@@ -1,5 +1,7 @@
-// The buffers of a run, zeros at first. The contract gives their length, which lending them as slices needs.
-ghost use Rattle.std.specs.Prelude.{◌≡◌, length};
+// The buffers of a run, zeros at first. The contracts give their lengths, which lending them as slices needs.
+ghost use Rattle.std.specs.Prelude.{◌≡◌, IfOk, length, vec_len};
+
+use std::alloc::{AllocError, Global};
 
 // For a sheet, with a byte more, which tells that it is too long.
 pub const SHEET: usize = 32769;
@@ -17,4 +19,11 @@ pub fn zeros<const N: usize>() -> [u8; N]
     ensures { N ≡ length result }
 {
     [0; N]
+}
+
+// The same from the allocator, for the longer ones.
+pub fn allocated<const N: usize>(alloc: Global) -> Result<Vec<u8>, AllocError>
+    ensures { IfOk result (λ buffer. N ≡ vec_len buffer) }
+{
+    Vec::from_elem(alloc, 0, N)
 }

@@ -1,5 +1,6 @@
 // Why a run saves nothing, and how that is told on standard error: in a line that begins with the program's name, and then says of which file it is.
 use lit::Refusal;
+use std::alloc::AllocError;
 use std::fmt::Display;
 use std::{fmt, io};
 
@@ -30,6 +31,13 @@ impl Failure {
             Failure::NotPrinted(_) => "standard output",
             _ => file,
         }
+    }
+}
+
+// Without memory nothing is saved.
+impl From<AllocError> for Failure {
+    fn from(e: AllocError) -> Failure {
+        Failure::NotSaved(io::Error::from(e))
     }
 }
 

@@ -3,7 +3,7 @@
 // error, and then FILE is as it was. docs/SAVED.md has the steps, and what a kill between any two of them leaves.
 #![tactic(auto)]
 
-use crate::buffers::{ANSWERS, OLD, SHEET, TEXT, zeros};
+use crate::buffers::{ANSWERS, OLD, SHEET, TEXT, allocated, zeros};
 use crate::failure::Failure;
 use saved_run::Both;
 use std::env::{Env, FillError};
@@ -74,27 +74,31 @@ fn usage(rt: &HostRuntime) {
 
 fn run(rt: &HostRuntime, file: &str, asked: Asked) -> Result<(), Failure> {
     match asked {
-        Asked::New => run_new(rt, file),
+        Asked::New => {
+            names::check_free(rt, file)?;
+            run_new(rt, file)
+        }
         Asked::On => run_on(rt, file),
     }
 }
 
-// `carry new FILE`.
+// `carry new FILE`, where the name is free. Without memory for the buffers nothing is read. It stands alone, so that what needs no buffers takes no stack for them.
+#[inline(never)]
 fn run_new(rt: &HostRuntime, file: &str) -> Result<(), Failure> {
-    names::check_free(rt, file)?;
     let mut sheet = zeros::<SHEET>();
-    let mut answers = zeros::<ANSWERS>();
+    let mut answers = allocated::<ANSWERS>(rt.alloc())?;
     let mut text = zeros::<TEXT>();
     let n = reading::read_sheet(rt, &mut sheet)?;
     let both = saved_desk::run_new(&sheet[..n], &mut answers, &mut text).map_err(Failure::Refused)?;
     finish(rt, file, Asked::New, both, &answers, &text)
 }
 
-// `carry on FILE`.
+// `carry on FILE`, in the same way.
+#[inline(never)]
 fn run_on(rt: &HostRuntime, file: &str) -> Result<(), Failure> {
-    let mut old = zeros::<OLD>();
+    let mut old = allocated::<OLD>(rt.alloc())?;
     let mut sheet = zeros::<SHEET>();
-    let mut answers = zeros::<ANSWERS>();
+    let mut answers = allocated::<ANSWERS>(rt.alloc())?;
     let mut text = zeros::<TEXT>();
     let m = reading::read_file(rt, file, &mut old)?;
     let n = reading::read_sheet(rt, &mut sheet)?;

@@ -1,29 +1,30 @@
-// Saving a text in a file: it is written aside, reaches the disk, and takes the file's name. Where a step fails, the file aside is removed, and the file is as it
-// was; but what closing the file aside answers is not known: its text is on the disk by then.
+// Saving a text in a file: it is written aside, reaches the disk, and takes the file's name. Where a step fails, that is told, the file aside is removed, and the
+// file is as it was; but what closing the file aside answers is not known: its text is on the disk by then.
 use crate::failure::Failure;
-use crate::{Asked, names};
+use crate::{Asked, failure, names};
 use std::fs::{File, OpenOptions, Permissions};
 use std::io::Write;
 use std::os::unix::fs::{MetadataExt, PermissionsExt, fchown};
 use std::{fs, io};
 
-// Saves the text in the file, a new one or in place of the old one.
+// Saves the text in the file, a new one or in place of the old one. Fails where no file aside is made; what fails behind that is told here, before the file aside
+// is removed.
 pub fn save(rt: &HostRuntime, file: &str, text: &[u8], asked: Asked) -> Result<(), Failure> {
-    let name = names::aside(rt, file).map_err(|e| Failure::NotSaved(io::Error::from(e)))?;
+    let name = names::aside(rt, file)?;
     let aside = name.as_str();
     let made = OpenOptions::new()
         .write(true)
         .create_new(true)
         .open(rt, aside)
         .map_err(Failure::NotSaved)?;
-    let done = replace(rt, file, aside, made, text, asked);
-    match done {
+    match replace(rt, file, aside, made, text, asked) {
         Ok(()) => sync_folder(rt, file),
-        Err(_) => {
+        Err(why) => {
+            failure::tell(rt, file, &why);
             let _ = fs::remove_file(rt, aside);
         }
     }
-    done
+    Ok(())
 }
 
 // Fills the file aside, which is new and open, and closes it; then it takes the file's name.
