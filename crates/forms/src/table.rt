@@ -22,8 +22,8 @@ pub enum Kind {
     Other,
 }
 
-// The kind of a line by its first byte, one entry for each byte.
-const KINDS: [Kind; 256] = [
+// The kind of a line by its first byte, one entry for each byte. A static: a constant array of an enum would be set up on the stack at each look.
+static KINDS: [Kind; 256] = [
     Kind::Other,
     Kind::Other,
     Kind::Other,

@@ -5,15 +5,10 @@ ghost use Rattle.std.specs.Prelude.{◌≡◌, ◌+◌, ◌*◌, ◌≤◌, leb,
 ghost use Rattle.std.specs.Float.{binary64};
 ghost use Rattle.std.specs.Float.Ieee.{of_bits};
 ghost use Rattle.lit.specs.Numbers as number;
-ghost use Rattle.forms.specs.Forms.{kind_of};
-ghost use Rattle.forms.specs.Kinds.{code_kind, kind_in};
+ghost use Rattle.forms.specs.Kinds.{kind_in};
 ghost use Rattle.words.specs.Words.{high_half, kind_call, words_fit};
 ghost use Rattle.words.specs.Read.{said_call, fits_in, WordsRead};
 
-use forms::letters::{
-    BUMP, BUMP_REASON, CLAUSE, DECAY, DECIDE, ENQUEUE, FIRST, GO_BACK, GROUP, INSERT, LEARN_UNIT,
-    SET_DECAY, SWITCH_OFF,
-};
 use forms::table::Kind;
 use forms::{Asked, with_number};
 use lit::MAX_GROUP;
@@ -55,29 +50,6 @@ fn read_kind(vars: &[u32], kind: Kind, a: u32, b: u32) -> Option<Asked>
     }
 }
 
-// The kind of a letter, by itself: the table of first bytes is set up for a look at it, which costs as much as a call.
-#[tactic(auto, unfolding(forms::specs::Forms::kind_of))]
-fn letter_kind(letter: u8) -> Kind
-    ensures { result ≡ code_kind (kind_of letter) }
-{
-    match letter {
-        BUMP => Kind::Bumps,
-        DECAY => Kind::Decays,
-        SET_DECAY => Kind::SetsDecay,
-        INSERT => Kind::Inserts,
-        SWITCH_OFF => Kind::SwitchesOff,
-        DECIDE => Kind::Decides,
-        ENQUEUE => Kind::Enqueues,
-        LEARN_UNIT => Kind::LearnsUnit,
-        GO_BACK => Kind::GoesBack,
-        BUMP_REASON => Kind::BumpsReason,
-        GROUP => Kind::MovesGroup,
-        CLAUSE => Kind::Clause,
-        FIRST => Kind::First,
-        _ => Kind::Other,
-    }
-}
-
 // The call of three words.
 pub fn read_words(vars: &[u32], letter: u32, a: u32, b: u32) -> Option<Asked>
     ensures { WordsRead vars.now letter a b result }
@@ -85,7 +57,7 @@ pub fn read_words(vars: &[u32], letter: u32, a: u32, b: u32) -> Option<Asked>
     let Ok(letter) = u8::try_from(letter) else {
         return None;
     };
-    read_kind(vars, letter_kind(letter), a, b)
+    read_kind(vars, Kind::of(letter), a, b)
 }
 
 // Writes the i-th answer.
