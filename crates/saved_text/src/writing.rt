@@ -85,14 +85,16 @@ pub fn put_row<N: Number>(
     end + 1
 }
 
-// Writes bytes from a place on, and gives the place behind them.
+// Writes bytes from a place on, and gives the place behind them. It is a loop, and no copy_from_slice, which would have a host's archive need memmove
+// beside memset and memcpy.
 fn put_bytes(out: &mut [u8], at: usize, word: &[u8]) -> usize
     requires { at + length word.now ≤ length out.old }
     ensures { Wrote at word.now out.old out.new result }
 {
-    let end = at + word.len();
-    out[at..end].copy_from_slice(word);
-    end
+    for (i, byte) in word.iter().enumerate() {
+        out[at + i] = *byte;
+    }
+    at + word.len()
 }
 
 // Writes the first line, with N and the word of the mode, from a place on, and gives the place behind it.

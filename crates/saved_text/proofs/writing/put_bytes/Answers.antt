@@ -1,13 +1,22 @@
--- `saved_text::writing::put_bytes` meets its contract: the bytes stand in the middle.
-use Prim.Native.Nat.{◌+◌, ◌-◌}
+-- `saved_text::writing::put_bytes` meets its contract: what was written is the bytes passed.
+use Prim.Native.Nat.{◌+◌}
 use mathlib.Core.Path.{◌≡◌, refl}
 use native.Mathlib.Omega.{arith}
-use lib.ListN.{length}
-use Rattle.saved_text.specs.Written.{written_mid}
+use native.Mathlib.Numerals.{add-one}
+use lib.ListN.{get_or}
+use lib.Seq.{take-suc}
+use Rattle.forms.specs.Text.{written}
+use Rattle.forms.specs.Written.{put_one}
 use Rattle.saved_text.proofs.writing.put_bytes.Goals as goal
 
-pub returns : goal.returns
-returns c =
+pub loop-i-init : goal.loop-i-init
+unfolding written
+loop-i-init c = (omega arith, record { buffer = refl; place = refl })
+
+pub loop-i-preserved : goal.loop-i-preserved
+loop-i-preserved c =
+    let l = c.loop-i in
     let a = c.args in
-    let many : a.at + length a.word.now - a.at ≡ length a.word.now = omega arith in
-    record { buffer = rw (c.copy_from_slice.ensures.after, many) (written_mid a.at a.word.now a.out.now c.requires); place = refl }
+    let i = l.i in
+    let e : a.at + (i + 1) ≡ a.at + i + 1 = omega arith in
+    (omega arith, rw (e, add-one i, take-suc a.word.now i 0 (omega arith)) (put_one (get_or a.word.now i 0) l.invariant.1))
