@@ -1,13 +1,15 @@
 // Copying a clause list or a trail into memory that was lent.
 ghost use Rattle.std.specs.Prelude.{◌≡◌, ◌≤◌, length, take};
 
-// Copies as much as out has room for from the front of a slice.
+// Copies as much as out has room for from the front of a slice. It is a loop, and no copy_from_slice, which would have a host's archive need memmove
+// beside memset and memcpy.
 pub fn copy_front<T: Copy>(src: &[T], out: &mut [T])
     requires { length out.old ≤ length src.now }
     ensures { out.new ≡ take (length out.old) src.now }
 {
-    let k = out.len();
-    out.copy_from_slice(&src[..k]);
+    for i in 0..out.len() {
+        out[i] = src[i];
+    }
 }
 
 // Copies a clause list from the fronts of slices.
