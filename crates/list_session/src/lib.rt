@@ -96,7 +96,7 @@ impl ListAnswer {
 }
 
 // A call that changes nothing: refused unless its argument passed the test.
-fn tested(ok: bool, refusal: Refusal) -> Result<Option<u32>, Refusal>
+pub fn tested(ok: bool, refusal: Refusal) -> Result<Option<u32>, Refusal>
     ensures status { status_of result ≡ cond ok 0 (refusal_number refusal) }
     ensures reply { reply_of result ≡ number.NONE }
 {

@@ -62,6 +62,7 @@ fn reply(given: Result<Option<u32>, Refusal>) -> u32
 }
 
 // Writes an answer line from a place on, with the status and the reply as numbers, and gives the place behind it.
+#[inline(never)]
 pub fn answer_numbers(out: &mut [u8], at: usize, line: u32, status: u32, reply: u32) -> usize
     requires { at + length (answer_line line status (reply_of reply)) ≤ length out.old }
     ensures { Wrote at (answer_line line status (reply_of reply)) out.old out.new result }
@@ -71,8 +72,8 @@ pub fn answer_numbers(out: &mut [u8], at: usize, line: u32, status: u32, reply: 
     put_ending(out, b, reply)
 }
 
-// Writes the answer to a line from a place on, and gives the place behind it.
-#[inline]
+// Writes the answer to a line from a place on, and gives the place behind it. Taken into its callers, so that what was given goes on as two numbers.
+#[inline(always)]
 pub fn answer(out: &mut [u8], at: usize, line: u32, given: Result<Option<u32>, Refusal>) -> usize
     requires { at + length (answer_line line (status_of given) (replied given)) ≤ length out.old }
     ensures { Wrote at (answer_line line (status_of given) (replied given)) out.old out.new result }
