@@ -7,8 +7,9 @@ pub fn copy_front<T: Copy>(src: &[T], out: &mut [T])
     requires { length out.old ≤ length src.now }
     ensures { out.new ≡ take (length out.old) src.now }
 {
-    for i in 0..out.len() {
-        out[i] = src[i];
+    let front = &src[..out.len()];
+    for (i, value) in front.iter().enumerate() {
+        out[i] = *value;
     }
 }
 
