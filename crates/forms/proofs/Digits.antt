@@ -88,3 +88,9 @@ module _ (bytes : List ℕ) (at : ℕ) (z : get_or bytes at 0 ≡ digit_zero) wh
   leads_end h l =
       let first : is_digit (get_or bytes at 0) ≡ true = rw z refl in
       omega (arith, run_next bytes at l first, no_byte bytes (at + 1) h)
+
+-- a digit is below 10
+pub digit_small : (b d : ℕ) → Some d ≡ digit_of b → d < 10
+digit_small b d q =
+    let e = digit_told b q in
+    omega (arith, leb-true b digit_nine (and_right (leb digit_zero b) (leb b digit_nine) e.0), e.1)

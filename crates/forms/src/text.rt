@@ -87,6 +87,11 @@ fn zero_leads(bytes: &[u8], at: usize) -> bool
     }
 }
 
+// The greatest number of 64 bits, and what it is without its last digit.
+const MOST: u64 = u64::MAX;
+
+const MOST_TENTH: u64 = MOST / 10;
+
 // The whole number, up to the greatest that may stand there, of the digits from a place on, and the place behind them. A zero that leads is seen before the
 // digits are gone through.
 pub fn digits_at(bytes: &[u8], at: usize, top: u64) -> Option<Field>
@@ -96,7 +101,6 @@ pub fn digits_at(bytes: &[u8], at: usize, top: u64) -> Option<Field>
     if zero_leads(bytes, at) {
         return None;
     }
-    let tenth = top / 10;
     let mut value: u64 = 0;
     let mut end = at;
     // a while: it ends at the first byte that is no digit, and where the number is too great
@@ -104,10 +108,10 @@ pub fn digits_at(bytes: &[u8], at: usize, top: u64) -> Option<Field>
         let Some(d) = digit(bytes[end]) else {
             break;
         };
-        if value > tenth {
+        if value >= MOST_TENTH && value > (MOST - d as u64) / 10 {
             return None;
         }
-        value = (value * 10).checked_add(d as u64)?;
+        value = value * 10 + d as u64;
         end += 1;
     }
     if end == at || value > top {

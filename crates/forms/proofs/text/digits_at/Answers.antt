@@ -1,9 +1,9 @@
 -- `forms::text::digits_at` meets its contract: what is left of the digits still decides, and a number of more than 64 bits is too great.
-use Rattle.std.proofs.Common.{◌≡◌, ◌+◌, ◌*◌, ◌/◌, ◌<◌, ◌∙◌, drop, arith}
+use Rattle.std.proofs.Common.{◌≡◌, get_or, ◌+◌, ◌-◌, ◌*◌, ◌/◌, ◌<◌, drop, arith}
 use Rattle.forms.specs.Reading.{digit_run}
-use Rattle.forms.proofs.Digits.{Left, start, more, nothing, leading, too_great, the_number, no_digit, no_byte}
+use Rattle.forms.proofs.Digits.{Left, start, more, nothing, leading, too_great, the_number, no_digit, no_byte, digit_small}
 use Rattle.forms.proofs.text.digits_at.Goals as goal
-use Rattle.forms.proofs.text.digits_at.Goals.{In-Some, Left-loop-end, else-loop-end-test, then-loop-end-test+in_default, then-end-at-via-then-end-at, then-end-at-via-else-end-at+then-value-top}
+use Rattle.forms.proofs.text.digits_at.Goals.{In-Some, else-value-ge-MOST_TENTH-via-then-value-ge-MOST_TENTH+else-value-d, else-value-ge-MOST_TENTH-via-else-value-ge-MOST_TENTH, Left-loop-end, else-loop-end-test, then-loop-end-test+in_default, then-end-at-via-then-end-at, then-end-at-via-else-end-at+then-value-top}
 
 pub loop-end-init : goal.loop-end-init
 loop-end-init c = start c.args.bytes.now c.args.at c.args.top c.requires
@@ -13,24 +13,22 @@ read-on : (c : In-Some) → let l = c.loop-end in let a = c.args in
     Left a.bytes.now a.at a.top (l.value * 10 + c.in-Some.d) (l.end + 1)
 read-on c = let l = c.loop-end in let a = c.args in more a.bytes.now a.at a.top l.value l.end c.in-Some.d l.invariant c.loop-end-test.true c.in-Some.ensures
 
-pub returns-then-value-tenth : goal.returns-then-value-tenth
-returns-then-value-tenth c =
-    let large : c.args.top / 10 < c.loop-end.value = c.if-value-tenth.true in
-    too_great _ _ _ _ _ (read-on (goal.at.returns-then-value-tenth c).In-Some) (omega (arith, large))
+small : (c : In-Some) → c.in-Some.d < 10
+small c = digit_small (get_or c.args.bytes.now c.loop-end.end 0) c.in-Some.d c.in-Some.ensures
+
+pub returns-then-value-d : goal.returns-then-value-d
+returns-then-value-d c =
+    let large : (18446744073709551615 - c.in-Some.d) / 10 < c.loop-end.value = c.if-value-d.true in
+    too_great _ _ _ _ _ (read-on (goal.at.returns-then-value-d c).In-Some) (omega (arith, large, c.ranges.top.fits))
 
 pub overflow_mul-value : goal.overflow_mul-value
-overflow_mul-value c = omega (arith, c.if-value-tenth.false, c.ranges.top.fits)
+overflow_mul-value c = elim c.else-value-ge-MOST_TENTH.branch [ else-value-ge-MOST_TENTH-via-then-value-ge-MOST_TENTH+else-value-d w ↦ omega (arith, w.if-value-d.false) | else-value-ge-MOST_TENTH-via-else-value-ge-MOST_TENTH w ↦ omega (arith, w.if-value-ge-MOST_TENTH.false) ]
 
-pub returns-in_err-value : goal.returns-in_err-value
-returns-in_err-value c =
-    let large : c.loop-end.value * 10 + c.in-Some.d < 18446744073709551616 → ⊥ = c.in_err-value.ensures in
-    c.from_residual.ensures ∙ too_great _ _ _ _ _ (read-on (goal.at.returns-in_err-value c).In-Some) (omega (arith, large, c.ranges.top.fits))
+pub overflow_add-value : goal.overflow_add-value
+overflow_add-value c = elim c.else-value-ge-MOST_TENTH.branch [ else-value-ge-MOST_TENTH-via-then-value-ge-MOST_TENTH+else-value-d w ↦ omega (arith, w.if-value-d.false, small (goal.at.overflow_add-value c).In-Some) | else-value-ge-MOST_TENTH-via-else-value-ge-MOST_TENTH w ↦ omega (arith, w.if-value-ge-MOST_TENTH.false, small (goal.at.overflow_add-value c).In-Some) ]
 
 pub loop-end-preserved : goal.loop-end-preserved
-loop-end-preserved c =
-    let sum = c.in_ok-value.ensures in
-    let same : c.loop-end.value * 10 + c.in-Some.d ≡ c.in_ok-value.value = omega (arith, sum.1) in
-    rw same at (read-on (goal.at.loop-end-preserved c).In-Some)
+loop-end-preserved c = read-on (goal.at.loop-end-preserved c).In-Some
 
 -- and where it is left, they end
 ended : (c : Left-loop-end) → digit_run (drop c.loop-end.end c.args.bytes.now) ≡ 0
