@@ -1,12 +1,16 @@
 -- Digits that are read one by one: what is left of them still decides, read behind the number that the others gave.
-use Rattle.std.proofs.Common.{◌≡◌, ℕ, ◌+◌, ◌-◌, ◌*◌, ◌<◌, ◌≤◌, leb, List, [], ◌∷◌, length, get_or, drop, sym, refl, ap, ◌∙◌, arith, length-take-le, get_or-drop, get_or-take, leb-true, true, Option, Some, None}
+use Rattle.std.proofs.Common.{◌≡◌, ℕ, ◌+◌, ◌-◌, ◌*◌, ◌<◌, ◌≤◌, leb, List, [], ◌∷◌, length, get_or, take, drop, sym, refl, ap, ◌∙◌, arith, length-take-le, get_or-drop, get_or-take, leb-true, Option, Some, None}
 use mathlib.Core.Option.{some}
 use Rattle.laws.specs.Tests.{and_left, and_right}
 use Rattle.forms.specs.Letters.{digit_zero, digit_nine}
-use Rattle.forms.specs.Text.{is_digit, number_up_to}
+use Rattle.forms.specs.Text.{number_up_to}
 use Rattle.forms.specs.Reading.{number_from, digit_of, digit_run, run, digit_told, digit_untold, run_next, run_digit, run_here, run_none, run_length, digits_none, number_next, number_over, number_end, number_starts, number_empty, number_zero}
 use Rattle.forms.specs.TextRead.{field_of}
 use Rattle.forms.specs.declared.text.Field.{Field}
+
+-- what stands from a place on begins with the byte there
+pub in_front : (bytes : List ℕ) (at n : ℕ) → 0 < n → get_or (take n (drop at bytes)) 0 0 ≡ get_or bytes at 0
+in_front bytes at n h = let same : at + 0 ≡ at = omega arith in get_or-take n (drop at bytes) 0 0 h ∙ get_or-drop at bytes 0 0 ∙ ap (λ (k : ℕ). get_or bytes k 0) same
 
 -- from place i on, behind the number v
 pub record Left (bytes : List ℕ) (at top v i : ℕ) : Type 0 where
@@ -37,12 +41,16 @@ module _ (bytes : List ℕ) (at top : ℕ) where
         value = rw e.1 (l.value ∙ ap (number_from top v) (run_digit bytes i h e.0) ∙ number_next top v (b ∷ run (drop (i + 1) bytes)) 0 (omega arith) low high);
       }
 
+  -- .. the first one
+  pub begun : (d : ℕ) → at < length bytes → Some d ≡ digit_of (get_or bytes at 0) → Left bytes at top d (at + 1)
+  begun d h q = let e : 0 * 10 + d ≡ d = omega arith in rw e at (more 0 at d (start (omega (arith, h))) h q)
+
   -- how many digits there are up to their end, and the first of them
   long : (v i : ℕ) → Left bytes at top v i → digit_run (drop i bytes) ≡ 0 → length (run (drop at bytes)) ≡ i - at
   long v i l e = length-take-le (digit_run (drop at bytes)) (drop at bytes) (run_length (drop at bytes)) ∙ omega (arith, l.ends)
 
   first : 0 < digit_run (drop at bytes) → get_or (run (drop at bytes)) 0 0 ≡ get_or bytes at 0
-  first h = let same : at + 0 ≡ at = omega arith in get_or-take (digit_run (drop at bytes)) (drop at bytes) 0 0 h ∙ get_or-drop at bytes 0 0 ∙ ap (λ (k : ℕ). get_or bytes k 0) same
+  first = in_front bytes at (digit_run (drop at bytes))
 
   -- no digit at all
   pub nothing : digit_run (drop at bytes) ≡ 0 → None ≡ read_at bytes at top
@@ -71,23 +79,6 @@ module _ (bytes : List ℕ) (i : ℕ) where
 
   pub no_byte : length bytes ≤ i → digit_run (drop i bytes) ≡ 0
   no_byte h = run_none bytes i h
-
--- a zero leads a digit, or is alone
-module _ (bytes : List ℕ) (at : ℕ) (z : get_or bytes at 0 ≡ digit_zero) where
-  pub leads_one : (d : ℕ) → at + 1 < length bytes → Some d ≡ digit_of (get_or bytes (at + 1) 0) → 1 < digit_run (drop at bytes)
-  leads_one d h q =
-      let first : is_digit (get_or bytes at 0) ≡ true = rw z refl in
-      omega (arith, run_next bytes at (omega (arith, h)) first, run_next bytes (at + 1) h (digit_told (get_or bytes (at + 1) 0) q).0)
-
-  pub leads_none : at + 1 < length bytes → None ≡ digit_of (get_or bytes (at + 1) 0) → digit_run (drop at bytes) ≤ 1
-  leads_none h n =
-      let first : is_digit (get_or bytes at 0) ≡ true = rw z refl in
-      omega (arith, run_next bytes at (omega (arith, h)) first, no_digit bytes (at + 1) h n)
-
-  pub leads_end : length bytes ≤ at + 1 → at < length bytes → digit_run (drop at bytes) ≤ 1
-  leads_end h l =
-      let first : is_digit (get_or bytes at 0) ≡ true = rw z refl in
-      omega (arith, run_next bytes at l first, no_byte bytes (at + 1) h)
 
 -- a digit is below 10
 pub digit_small : (b d : ℕ) → Some d ≡ digit_of b → d < 10

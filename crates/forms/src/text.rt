@@ -1,5 +1,5 @@
 // The text of a call sheet: places of bytes, whole numbers, bit patterns, and the digits of answers.
-ghost use Rattle.std.specs.Prelude.{◌≡◌, true, false, get_or, ◌+◌, ◌-◌, ◌<◌, ◌≤◌, Some, None, [], ◌∷◌, length, take, drop, if◌then◌else◌, from_bits};
+ghost use Rattle.std.specs.Prelude.{◌≡◌, true, false, get_or, ◌+◌, ◌-◌, ◌*◌, ◌<◌, ◌≤◌, Some, None, [], ◌∷◌, length, take, drop, if◌then◌else◌, from_bits};
 ghost use Rattle.std.specs.Float.{binary64};
 ghost use Rattle.forms.specs.Letters.{digit_zero};
 ghost use Rattle.forms.specs.Text as spec;
@@ -71,51 +71,48 @@ fn digit(b: u8) -> Option<u8>
     Some(b - b'0')
 }
 
-// Whether a zero from a place on leads a number of two digits or more.
-#[tactic(auto, using(crate::proofs::Digits::leads_one, crate::proofs::Digits::leads_none, crate::proofs::Digits::leads_end))]
-fn zero_leads(bytes: &[u8], at: usize) -> bool
-    requires { at ≤ length bytes.now }
-    ensures leads { result ≡ true → (get_or bytes.now at 0 ≡ digit_zero) × (1 < digit_run (drop at bytes.now)) }
-    ensures alone { result ≡ false → get_or bytes.now at 0 ≡ digit_zero → digit_run (drop at bytes.now) ≤ 1 }
+// Whether a zero leads these digits.
+fn zero_leads(digits: &[u8]) -> bool
+    requires { 0 < length digits.now }
+    ensures leads { result ≡ true → get_or digits.now 0 0 ≡ digit_zero }
+    ensures other { result ≡ false → get_or digits.now 0 0 ≡ digit_zero → ⊥ }
 {
-    if at + 1 >= bytes.len() || bytes[at] != b'0' {
-        return false;
-    }
-    match digit(bytes[at + 1]) {
-        Some(_) => true,
-        None => false,
-    }
+    digits[0] == b'0'
 }
 
-// The greatest number of 64 bits, and what it is without its last digit.
-const MOST: u64 = u64::MAX;
+// Whether a number up to the greatest has no room for this digit behind it.
+fn is_full(value: u64, d: u8, top: u64) -> bool
+    ensures full { result ≡ true → top < value * 10 + d }
+    ensures room { result ≡ false → d < 10 → value * 10 + d ≤ top }
+{
+    let tenth = top / 10;
+    value >= tenth && (value > tenth || d as u64 > top % 10)
+}
 
-const MOST_TENTH: u64 = MOST / 10;
-
-// The whole number, up to the greatest that may stand there, of the digits from a place on, and the place behind them. A zero that leads is seen before the
-// digits are gone through.
+// The whole number, up to the greatest that may stand there, of the digits from a place on, and the place behind them.
 pub fn digits_at(bytes: &[u8], at: usize, top: u64) -> Option<Field>
     requires { at ≤ length bytes.now }
     ensures { result ≡ field_of (at + digit_run (drop at bytes.now)) (spec.number_up_to top (run (drop at bytes.now))) }
 {
-    if zero_leads(bytes, at) {
+    if at == bytes.len() {
         return None;
     }
-    let mut value: u64 = 0;
-    let mut end = at;
-    // a while: it ends at the first byte that is no digit, and where the number is too great
+    let first = digit(bytes[at])?;
+    if first as u64 > top {
+        return None;
+    }
+    let mut value = first as u64;
+    let mut end = at + 1;
+    // a while: it ends at the first byte that is no digit, and where no number goes on
     while end < bytes.len() {
         let Some(d) = digit(bytes[end]) else {
             break;
         };
-        if value >= MOST_TENTH && value > (MOST - d as u64) / 10 {
+        if zero_leads(&bytes[at..end]) || is_full(value, d, top) {
             return None;
         }
         value = value * 10 + d as u64;
         end += 1;
-    }
-    if end == at || value > top {
-        return None;
     }
     Some(Field { value, end })
 }

@@ -57,7 +57,8 @@ fn step_on(
 }
 
 impl ListSession<'_> {
-    // A call on a good session.
+    // A call on a good session. Taken into its callers: a reply that goes through memory is stored byte by byte and read back as one word.
+    #[inline(always)]
     pub fn step(
         &mut self,
         n: u32,

@@ -31,6 +31,7 @@ impl Session for ListSession<'_> {
         list_entry::refusal(n, literals, clauses, list, self.view(), fits)
     }
 
+    #[inline(always)]
     fn call(
         &mut self,
         n: u32,

@@ -78,6 +78,7 @@ pub fn keep<N: Number>(out: &mut [N], at: usize, v: N)
 }
 
 // The numbers of the line with this letter that stands at a place of a text, in out as far as it has room.
+#[inline(always)]
 pub fn read_row<N: Number>(
     text: &[u8],
     at: usize,

@@ -9,12 +9,17 @@ use forms::letters::{DASH, FIRST};
 use forms::text::{NEWLINE, TAB, digit_count, put_number};
 use lit::NONE;
 
+// The bytes of the hexadecimal digits. A table is looked at: sixteen choices between two ranges were packed into one register, which took longer.
+static HEX_BYTES: [u8; 16] = [
+    b'0', b'1', b'2', b'3', b'4', b'5', b'6', b'7', b'8', b'9', b'a', b'b', b'c', b'd', b'e', b'f',
+];
+
 // The byte of a hexadecimal digit.
 fn hex_byte(d: u8) -> u8
     requires { d < 16 }
     ensures { result ≡ hex_byte d }
 {
-    if d < 10 { b'0' + d } else { b'a' - 10 + d }
+    HEX_BYTES[d as usize]
 }
 
 // Writes 64 bits as 16 hexadecimal digits from a place on, the last one first, and gives the place behind them.

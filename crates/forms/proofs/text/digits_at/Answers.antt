@@ -1,59 +1,72 @@
--- `forms::text::digits_at` meets its contract: what is left of the digits still decides, and a number of more than 64 bits is too great.
-use Rattle.std.proofs.Common.{◌≡◌, get_or, ◌+◌, ◌-◌, ◌*◌, ◌/◌, ◌<◌, drop, arith}
-use Rattle.forms.specs.Reading.{digit_run}
-use Rattle.forms.proofs.Digits.{Left, start, more, nothing, leading, too_great, the_number, no_digit, no_byte, digit_small}
+-- `forms::text::digits_at` meets its contract: what is left of the digits still decides, and a number that has no room for a digit more is too great with it.
+use Rattle.std.proofs.Common.{get_or, ◌+◌, ◌-◌, ◌*◌, ◌<◌, ◌≤◌, length, sym, ◌∙◌, arith}
+use Rattle.forms.proofs.Digits.{Left, begun, more, nothing, leading, too_great, the_number, in_front, no_digit, no_byte, digit_small}
 use Rattle.forms.proofs.text.digits_at.Goals as goal
-use Rattle.forms.proofs.text.digits_at.Goals.{In-Some, else-value-ge-MOST_TENTH-via-then-value-ge-MOST_TENTH+else-value-d, else-value-ge-MOST_TENTH-via-else-value-ge-MOST_TENTH, Left-loop-end, else-loop-end-test, then-loop-end-test+in_default, then-end-at-via-then-end-at, then-end-at-via-else-end-at+then-value-top}
+use Rattle.forms.proofs.text.digits_at.Goals.{Else-at-bytes, Else-is_full, In-Some, then-zero_leads-via-then-zero_leads, then-zero_leads-via-else-zero_leads+then-is_full}
+
+pub returns-then-at-bytes : goal.returns-then-at-bytes
+returns-then-at-bytes c = let a = c.args in nothing a.bytes.now a.at a.top (no_byte a.bytes.now a.at (omega (arith, c.if-at-bytes.true)))
+
+-- the first byte is one of the text
+here : (c : Else-at-bytes) → c.args.at < length c.args.bytes.now
+here c = omega (arith, c.requires, c.if-at-bytes.false)
+
+pub returns-in_err-first : goal.returns-in_err-first
+returns-in_err-first c =
+    let a = c.args in
+    c.from_residual.ensures ∙ nothing a.bytes.now a.at a.top (no_digit a.bytes.now a.at (here (goal.at.returns-in_err-first c).Else-at-bytes) c.in_err-first.ensures)
+
+pub returns-then-first-top : goal.returns-then-first-top
+returns-then-first-top c =
+    let a = c.args in
+    too_great _ _ _ _ _ (begun a.bytes.now a.at a.top c.in_ok-first.first (here (goal.at.returns-then-first-top c).Else-at-bytes) c.in_ok-first.ensures) c.if-first-top.true
 
 pub loop-end-init : goal.loop-end-init
-loop-end-init c = start c.args.bytes.now c.args.at c.args.top c.requires
+loop-end-init c =
+    let a = c.args in
+    (begun a.bytes.now a.at a.top c.in_ok-first.first (here (goal.at.loop-end-init c).Else-at-bytes) c.in_ok-first.ensures, omega arith, c.if-first-top.false, λ z. omega arith)
 
 -- where the loop goes on, the byte is a digit
 read-on : (c : In-Some) → let l = c.loop-end in let a = c.args in
     Left a.bytes.now a.at a.top (l.value * 10 + c.in-Some.d) (l.end + 1)
-read-on c = let l = c.loop-end in let a = c.args in more a.bytes.now a.at a.top l.value l.end c.in-Some.d l.invariant c.loop-end-test.true c.in-Some.ensures
-
-small : (c : In-Some) → c.in-Some.d < 10
-small c = digit_small (get_or c.args.bytes.now c.loop-end.end 0) c.in-Some.d c.in-Some.ensures
-
-pub returns-then-value-d : goal.returns-then-value-d
-returns-then-value-d c =
-    let large : (18446744073709551615 - c.in-Some.d) / 10 < c.loop-end.value = c.if-value-d.true in
-    too_great _ _ _ _ _ (read-on (goal.at.returns-then-value-d c).In-Some) (omega (arith, large, c.ranges.top.fits))
-
-pub overflow_mul-value : goal.overflow_mul-value
-overflow_mul-value c = elim c.else-value-ge-MOST_TENTH.branch [ else-value-ge-MOST_TENTH-via-then-value-ge-MOST_TENTH+else-value-d w ↦ omega (arith, w.if-value-d.false) | else-value-ge-MOST_TENTH-via-else-value-ge-MOST_TENTH w ↦ omega (arith, w.if-value-ge-MOST_TENTH.false) ]
-
-pub overflow_add-value : goal.overflow_add-value
-overflow_add-value c = elim c.else-value-ge-MOST_TENTH.branch [ else-value-ge-MOST_TENTH-via-then-value-ge-MOST_TENTH+else-value-d w ↦ omega (arith, w.if-value-d.false, small (goal.at.overflow_add-value c).In-Some) | else-value-ge-MOST_TENTH-via-else-value-ge-MOST_TENTH w ↦ omega (arith, w.if-value-ge-MOST_TENTH.false, small (goal.at.overflow_add-value c).In-Some) ]
-
-pub loop-end-preserved : goal.loop-end-preserved
-loop-end-preserved c = read-on (goal.at.loop-end-preserved c).In-Some
-
--- and where it is left, they end
-ended : (c : Left-loop-end) → digit_run (drop c.loop-end.end c.args.bytes.now) ≡ 0
-ended c =
-    let bytes = c.args.bytes.now in
-    let i = c.loop-end.end in
-    elim c.loop-end-test.branch [ then-loop-end-test+in_default w ↦ no_digit bytes i w.loop-end-test.true w.in_default.ensures | else-loop-end-test w ↦ no_byte bytes i w.loop-end-test.false ]
-
-pub returns-then-end-at : goal.returns-then-end-at
-returns-then-end-at c =
-    let a = c.args in
-    elim c.then-end-at.branch [
-      | then-end-at-via-then-end-at w ↦ (let none : digit_run (drop a.at a.bytes.now) ≡ 0 = rw w.if-end-at.true at (ended (goal.at.returns-then-end-at c).Left-loop-end) in nothing a.bytes.now a.at a.top none)
-      | then-end-at-via-else-end-at+then-value-top w ↦ too_great _ _ _ _ _ c.loop-end.invariant w.if-value-top.true
-    ]
+read-on c = let l = c.loop-end in let a = c.args in more a.bytes.now a.at a.top l.value l.end c.in-Some.d l.invariant.0 c.loop-end-test.true c.in-Some.ensures
 
 pub returns-then-zero_leads : goal.returns-then-zero_leads
 returns-then-zero_leads c =
     let a = c.args in
-    let e = c.zero_leads.ensures.leads c.if-zero_leads.true in
-    leading a.bytes.now a.at a.top e.0 e.1
+    let on = read-on (goal.at.returns-then-zero_leads c).In-Some in
+    elim c.then-zero_leads.branch [
+      | then-zero_leads-via-then-zero_leads w ↦ leading a.bytes.now a.at a.top (sym (in_front a.bytes.now a.at (c.loop-end.end - a.at) (omega (arith, c.loop-end.invariant.1))) ∙ c.zero_leads.ensures.leads w.if-zero_leads.true) (omega (arith, c.loop-end.invariant.1, on.ends))
+      | then-zero_leads-via-else-zero_leads+then-is_full w ↦ too_great _ _ _ _ _ on (w.is_full.ensures.full w.if-is_full.true)
+    ]
 
-pub returns : goal.returns
-returns c =
-    let l = c.loop-end in
+-- with which the number is not too great
+within : (c : Else-is_full) → c.loop-end.value * 10 + c.in-Some.d ≤ c.args.top
+within c = c.is_full.ensures.room c.if-is_full.false (digit_small (get_or c.args.bytes.now c.loop-end.end 0) c.in-Some.d c.in-Some.ensures)
+
+pub overflow_mul-value : goal.overflow_mul-value
+overflow_mul-value c = omega (arith, within (goal.at.overflow_mul-value c).Else-is_full, c.ranges.top.fits)
+
+pub overflow_add-value : goal.overflow_add-value
+overflow_add-value c = omega (arith, within (goal.at.overflow_add-value c).Else-is_full, c.ranges.top.fits)
+
+pub loop-end-preserved : goal.loop-end-preserved
+loop-end-preserved c =
+    let a = c.args in (
+      read-on (goal.at.loop-end-preserved c).In-Some,
+      omega (arith, c.loop-end.invariant.1),
+      within (goal.at.loop-end-preserved c).Else-is_full,
+      λ z. absurd (c.zero_leads.ensures.other c.if-zero_leads.false (in_front a.bytes.now a.at (c.loop-end.end - a.at) (omega (arith, c.loop-end.invariant.1)) ∙ z)),
+    )
+
+pub returns-after-loop-end : goal.returns-after-loop-end
+returns-after-loop-end c =
     let a = c.args in
-    the_number a.bytes.now a.at a.top l.value l.end l.invariant (ended (goal.at.returns c).Left-loop-end) (omega (arith, l.invariant.from, c.if-end-at.false)) c.if-value-top.false
-    (λ z. omega (arith, l.invariant.ends, l.invariant.from, c.if-end-at.false, c.zero_leads.ensures.alone c.if-zero_leads.false z))
+    let l = c.loop-end in
+    the_number a.bytes.now a.at a.top l.value l.end l.invariant.0 (no_byte a.bytes.now l.end c.loop-end-test.false) l.invariant.1 l.invariant.2 l.invariant.3
+
+pub returns-in_default : goal.returns-in_default
+returns-in_default c =
+    let a = c.args in
+    let l = c.loop-end in
+    the_number a.bytes.now a.at a.top l.value l.end l.invariant.0 (no_digit a.bytes.now l.end c.loop-end-test.true c.in_default.ensures) l.invariant.1 l.invariant.2 l.invariant.3
